@@ -108,7 +108,8 @@ impl NamedText {
     /// Whether the words run a program, and name neither workers nor a trace, which differs by workers.
     fn is_run_by_default(&self) -> bool {
         let mut words = self.words.iter().map(|word| word.as_str());
-        words.nth(1) == Some("run")
+        let command = words.nth(1);
+        (command == Some("run") || command == Some("sample"))
             && !words.any(|word| word.starts_with("--workers") || word == "--trace")
     }
 

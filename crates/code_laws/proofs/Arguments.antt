@@ -231,12 +231,3 @@ given_by keeps o w t p e Typed Part Goal this that other last (inl a) = this a.0
 given_by keeps None w t p e Typed Part Goal this that other last (inr (inl h)) = absurd h
 given_by keeps (Some y) w t p e Typed Part Goal this that other last (inr (inl h)) = that y refl h
 given_by keeps o w t p e Typed Part Goal this that other last (inr (inr h)) = ⊎_elim other last (handed_part keeps o w t p e Part h)
-
--- where no partitions are kept, it is no part
-pub given_either : (o : Option Taking) (w : Where) (t p : StaticType) (e : Expression) (Typed Goal : Type 0) →
-    (AreAlike (typed w e) t → t ≡ p → Typed → Goal) → ((y : Taking) → o ≡ Some y → IsHanded (Some y) w t p e → Goal) →
-    ((AreAlike (typed w e) t × (t ≡ p)) × Typed) ⊎ (IsHanded o w t p e ⊎ ⊥) → Goal
-given_either o w t p e Typed Goal this that (inl a) = this a.0.0 a.0.1 a.1
-given_either None w t p e Typed Goal this that (inr (inl h)) = absurd h
-given_either (Some y) w t p e Typed Goal this that (inr (inl h)) = that y refl h
-given_either o w t p e Typed Goal this that (inr (inr h)) = absurd h

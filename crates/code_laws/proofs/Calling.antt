@@ -7,7 +7,7 @@ use Rattle.std.proofs.lemmas.Option.{slice_get-map}
 use Rattle.std.proofs.Math.Seq.{get_or-append_seam}
 use Rattle.region_tree.specs.declared.tree.RootId.{RootId}
 use Rattle.regent_tree.specs.Evaluation.{answered, called}
-use Rattle.regent_tree.specs.Laws.{SameRoots}
+use Rattle.regent_tree.specs.Laws.{SameRoots, shape_of}
 use Rattle.regent_tree.specs.Running.{State, Here, Called, and_then, pay_from}
 use Rattle.regent_tree.specs.Store.{Store, no_root}
 use Rattle.regent_tree.specs.StaticTypes.{task_named}
@@ -53,7 +53,7 @@ use Rattle.memory_laws.proofs.Returning.{returned_holds}
 use Rattle.value_laws.specs.Shapes.{KeepsNumbers}
 use Rattle.code_laws.specs.Taking.{is_asked}
 use Rattle.code_laws.proofs.Shapes.{shaped_stays}
-use Rattle.code_laws.specs.Standing.{Agrees, Answering, Aside, Comes, IsTaken, Matches, Returns, SlotsFit, Stands, Takes, both_back, both_broke, called_with, is_own, machine_value}
+use Rattle.code_laws.specs.Standing.{Agrees, Answering, Aside, Comes, IsTaken, Matches, Returns, SlotsFit, Stands, Takes, both_back, both_broke, called_with, is_own, machine_value, where_of, blank}
 use Rattle.code_laws.specs.Steps.{Setting, Taking, machine_of, placed, on_step, Leads, Ends}
 use Rattle.code_laws.proofs.Making.{same_names}
 use Rattle.code_laws.proofs.Openings.{least_slots, params_length, taken_length, types_length}
@@ -62,6 +62,8 @@ use Rattle.code_laws.proofs.Kept.{numbers_taken}
 use Rattle.code_laws.proofs.Reaching.{all_inside}
 use Rattle.code_laws.proofs.Runs.{ends_by, leads_by}
 use Rattle.regent_tree.specs.Scopes.{scope_of}
+use Rattle.code_rules.specs.Slots.{beside}
+use Rattle.code_laws.proofs.Besides.{beside_roots}
 
 -- ---- arguments
 
@@ -183,6 +185,14 @@ module _ (x : Setting) (params slots : ℕ) (fit : SlotsFit x slots) (aside : As
         inside_store = all_inside x s.store (take (length s.store) after) h.scope.names s.names same g.typed g.inside_store;
         pointed = g.pointed;
         steady = g.steady;
+        besides = beside_roots (λ p. get_or i.frame.slots (beside (where_of params h) p) blank) i.contents (closed own c) params (length s.store)
+            (length (take (length s.store) after)) h.scope.names s.names g.typed
+            (λ q low. (
+              ap (λ n. machine.Region (region_with n q.points)) (ap (λ ns. get_or ns q.root (closed own c).made) numbers_stay
+                  ∙ get_or_default (numbers i.contents) q.root (closed own c).made i.contents.made
+                  (omega (arith, low, g.memory.stands.count, length-map i.contents.roots (λ (r : Root). r.id.0)))),
+              subst (λ n. q.root < n) (sym (length-map s.store shape_of) ∙ ap length (sym same) ∙ length-map (take (length s.store) after) shape_of) low,
+            )) g.besides;
         count = g.count;
         inside = g.inside;
         slots_are = g.slots_are;

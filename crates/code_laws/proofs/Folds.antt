@@ -37,6 +37,7 @@ use Rattle.code_laws.proofs.Runs.{leads_by, leads_twice}
 use Rattle.code_laws.proofs.States.{aside_stored, changed, stored, stores}
 use Rattle.code_laws.proofs.Pointing.{simple_no_region}
 use Rattle.code_laws.proofs.Values.{jump_later, named, number_inside}
+use Rattle.code_laws.proofs.Besides.{plain_alike}
 
 -- ---- numbers
 
@@ -92,7 +93,7 @@ module _ (x : Setting) (params slots : ℕ) (fit : SlotsFit x slots) (counts : C
             (number_inside x s.store _ w z (subst (λ t. IsOf t (a_number w z)) (sym ty) (of_integer w z p)))
             (simple_no_region (integer_type w) _ (simple_integer w)
             (subst (λ t. IsOf t (get_or s.names (bound_to h.scope.names n).place nothing)) ty (named IsOf h.scope.names s.names n g.typed b).holding))
-            (λ bs names t q. tt) g,
+            (λ bs names t q. tt) (λ t q goes. plain_alike t _ (a_number w z) q tt goes) g,
       )
 
   before : (pc : ℕ) (h : Here) (i j : Instance) (s : State) → Leads x i j →

@@ -1,9 +1,6 @@
 -- Arguments of a call: numbers, truths, regions that have names and parts of partitions that have names.
-use Rattle.std.proofs.Common.{◌≡◌, ℕ, suc, ◌<◌, List, [], ◌∷◌, ◌++◌, ◌⊎◌, true, Some, refl, sym, ap, ◌∙◌, subst, arith}
-use Rattle.std.specs.Prelude.{get_or, length, map}
-use Rattle.std.proofs.lemmas.List.{append_assoc, get_or_default, length-map, map-append}
-use Rattle.std.proofs.Math.ListN.{get_or-append}
-use Rattle.region_tree.specs.declared.tree.RootId.{RootId}
+use Rattle.std.proofs.Common.{◌≡◌, ℕ, suc, ◌<◌, List, [], ◌∷◌, ◌⊎◌, true, Some, refl, sym, subst}
+use Rattle.std.specs.Prelude.{get_or, length}
 use Rattle.regent_tree.proofs.Expressions.{values_kept}
 use Rattle.regent_tree.proofs.Laws.{any_calls, names_law}
 use Rattle.regent_tree.specs.Evaluation.{value, values}
@@ -18,15 +15,11 @@ use Rattle.regent_tree.specs.Typing.{parent_of}
 use Rattle.regent_tree.specs.Values.{Region, Value, a_region}
 use Rattle.regent_tree.specs.declared.typing.StaticType.{StaticType}
 use Rattle.machine_terms.specs.declared.order.Instance.{Instance}
-use Rattle.machine_terms.specs.declared.order.Root.{Root}
 use Rattle.machine_terms.specs.declared.value.Value.{Value as MachineValue}
-use Rattle.machine_terms.specs.declared.value.Value.TheVariants as machine
-use Rattle.machine_terms.specs.Makes.{region_with}
 use Rattle.code_rules.specs.Expressions.{expr_code}
 use Rattle.code_rules.specs.Instructions.{converted_code}
 use Rattle.code_rules.specs.Pieces.{past}
 use Rattle.code_rules.specs.Slots.{typed}
-use Rattle.memory_laws.specs.Places.{number_at, numbers}
 use Rattle.code_laws.specs.Arguments.{IsCutName, IsHanded, name_of, part_of}
 use Rattle.code_laws.specs.Pointers.{IsCounting}
 use Rattle.code_laws.specs.Pointers.{Passes}
@@ -41,6 +34,7 @@ use Rattle.code_laws.proofs.Parts.{GoodPart, IsColoured, cut_of, parent_inside, 
 use Rattle.code_laws.proofs.Reaching.{region_lies_in}
 use Rattle.code_laws.proofs.Runs.{Said, then}
 use Rattle.code_laws.proofs.Values.{named}
+use Rattle.code_laws.proofs.Staying.{numbers_stay, region_same}
 
 -- arguments leave the names as they were
 pub arguments_keep_names : (h : Here) (ts : List StaticType) (es : Expressions) (s : State) → Leaves SameNames s (values h ts es s)
@@ -91,22 +85,7 @@ module _ (x : Setting) (params slots : ℕ) (fit : SlotsFit x slots) (aside : As
   AreGivenBy h (p ∷ ps) (an_expr e es) (v ∷ vs) names = IsGivenBy h p e v names × AreGivenBy h ps es vs names
   AreGivenBy h _ _ _ names = ⊥
 
-  -- roots keep their numbers while the run goes on
-  numbers_stay : (h : Here) (s t : State) (i j : Instance) → Agrees x params slots aside h s i → Agrees x params slots aside h t j →
-      HasMore i.frame.own j.frame.own → (r : ℕ) → r < length s.store → number_at j.contents r ≡ number_at i.contents r
-  numbers_stay h s t i j g k more r low =
-      let ids : List RootId → List ℕ = map (λ (id : RootId). id.0) in
-      let are : numbers j.contents ≡ numbers i.contents ++ ids more.more =
-      k.framed.own_are ∙ ap (λ own. x.before ++ ids own) more.are
-      ∙ ap (λ ns. x.before ++ ns) (map-append (λ (id : RootId). id.0) i.frame.own more.more)
-      ∙ sym (append_assoc x.before (ids i.frame.own) (ids more.more))
-      ∙ ap (λ ns. ns ++ ids more.more) (sym g.framed.own_are) in
-      let there : r < length (numbers i.contents) = omega (arith, low, g.memory.stands.count, length-map i.contents.roots (λ (r : Root). r.id.0)) in
-      ap (λ ns. get_or ns r j.contents.made) are
-      ∙ get_or-append (numbers i.contents) (ids more.more) j.contents.made r there
-      ∙ get_or_default (numbers i.contents) r j.contents.made i.contents.made there
-
-  -- so values are the same for the machine
+  -- values are the same for the machine as the run goes on
   abbrev pub Stays : Here → State → Instance → Value → Type 0
   Stays h s i v = (t : State) (j : Instance) → Agrees x params slots aside h t j → HasMore i.frame.own j.frame.own →
       machine_value i.contents v ≡ machine_value j.contents v
@@ -114,12 +93,12 @@ module _ (x : Setting) (params slots : ℕ) (fit : SlotsFit x slots) (aside : As
   pub value_stays : (h : Here) (s : State) (i : Instance) → Agrees x params slots aside h s i → (u : StaticType) (v : Value) → IsOf u v →
       IsInside x s.store u v → Stays h s i v
   value_stays h s i g u v typed inside t j k more =
-      sym (same_value x s.store no_root i.contents j.contents (numbers_stay h s t i j g k more) u v typed inside)
+      sym (same_value x s.store no_root i.contents j.contents (numbers_stay x params slots aside aside h h s t i j g k more) u v typed inside)
 
   pub part_stays : (h : Here) (s : State) (i : Instance) → Agrees x params slots aside h s i → (q : Region) → q.root < length s.store →
       Stays h s i (a_region q)
   part_stays h s i g q low t j k more =
-      ap (λ n. machine.Region (region_with n q.points)) (sym (numbers_stay h s t i j g k more q.root low))
+      sym (region_same x params slots aside aside h h s t i j g k more q low)
 
   -- a region that has a name goes on the stack
   named_handed : {B : Type 0} {T : Instance → Result B → Type 0} → Said x T → (h : Here) (d : ℕ) (y : Taking) (t p : StaticType) (n : Name)

@@ -1,6 +1,6 @@
 -- What is known at a place of a task's body, where each region in it has a name or is a part: what the task's head tells
 -- of its parameters, what was made behind them, and of which regions partitions are. So what the rules allow may be done.
-use Rattle.std.proofs.Common.{◌≡◌, Bool, List, [], ◌∷◌, None, Some, false, true, refl, ap, sym, subst, ℕ, ◌<◌, ◌≤◌, ◌∙◌, cond, not, map, arith, ◌⊎◌, inl, inr, ⊎_elim}
+use Rattle.std.proofs.Common.{◌≡◌, Bool, List, [], ◌∷◌, None, Some, false, true, refl, ap, sym, subst, ℕ, ◌<◌, ◌≤◌, ◌∙◌, cond, map, arith, ◌⊎◌, inl, inr, ⊎_elim}
 use Rattle.std.specs.Prelude.{length, ◌&&◌}
 use Rattle.std.specs.List.{Contains, list_all}
 use Rattle.std.proofs.lemmas.Bool.{and_parts, not-false, or_parts}
@@ -10,7 +10,7 @@ use Rattle.regent_tree.specs.Lookup.{has_field}
 use Rattle.regent_tree.specs.Scopes.{Scope, knowing, known_of_clause, known_of_clauses, known_of_params, known_of_type, past, scope_of, with_name}
 use Rattle.regent_tree.specs.StaticTypes.{Reach, field_place, place_in}
 use Rattle.regent_tree.specs.Syntax.{Expression, Name, TaskTree, Tree}
-use Rattle.regent_tree.specs.Typing.{has_wild, reaches_of, type_of_element}
+use Rattle.regent_tree.specs.Typing.{type_of_element}
 use Rattle.regent_tree.specs.declared.facts.Known.{Known}
 use Rattle.regent_tree.specs.declared.facts.Known.TheVariants.{Apart, Made, PartOf, Within}
 use Rattle.regent_tree.specs.declared.facts.Term.{Term}
@@ -30,19 +30,17 @@ use Rattle.local_form.specs.LocalForm.{Marked}
 use Rattle.code_laws.specs.Handing.{forms_by, takes_by}
 use Rattle.code_laws.specs.Privileges.{IsKnownBehind}
 use Rattle.check_laws.specs.SoundScopes.{Falls}
-use Rattle.code_rules.specs.Slots.{Where, bound}
+use Rattle.code_rules.specs.Slots.{Where}
 use Rattle.code_laws.specs.Simple.{IsRegion, a_region_type, term_in}
-use Rattle.code_laws.specs.Typed.{MayGo, MayReach}
+use Rattle.code_laws.specs.Typed.{MayReach}
 use Rattle.regent_tree.specs.declared.typing.Bound.{Bound}
 use Rattle.regent_tree.specs.declared.typing.StaticType.TheVariants.{Partition as partition_type}
 use Rattle.statement_laws.specs.Steady.{ArePlaced}
 use Rattle.value_laws.specs.Spaces.{AreSpaced}
-use Rattle.code_laws.proofs.LocalFields.{FieldMarks}
 use Rattle.code_laws.proofs.LocalValues.{AreAmong, found_among, value_other}
 use Rattle.code_laws.specs.Taking.{MayDo, pairs_in}
 use Rattle.code_laws.proofs.DeclaredNeeds.{none_made, none_within, pair_listed, region_param}
 use Rattle.code_laws.proofs.LocalNames.{AllKept, IsKept, kept_partition, kept_region, kept_scalar, kept_value, region_of_number}
-use Rattle.code_laws.proofs.LocalPlaces.{IsAimed}
 use Rattle.code_laws.proofs.Privileges.{allowed_is_needed, mode_in}
 use Rattle.code_laws.proofs.LocalTypes.{simple_other}
 use Rattle.code_laws.proofs.Values.{scalar_simple}
@@ -122,7 +120,7 @@ granted_at tree task s _ e f a (a_region_type k sp args r) there lacking =
     (and_parts (may_do (rights_declared tree task) s.known want) true (not-false _ all)).0
 
 -- so of each region that a pointer may go to
-reach_may : (handing keeping : Bool) (task : TaskTree) (w : Where) → IsSoundTask w.tree task → KnowsHead w.tree task w.scope → Falls w.scope.next w.scope.names →
+pub reach_may : (handing keeping : Bool) (task : TaskTree) (w : Where) → IsSoundTask w.tree task → KnowsHead w.tree task w.scope → Falls w.scope.next w.scope.names →
     (field sp : ℕ) (a : Access) (rs : List Reach) → AreAmong w.scope.names sp rs →
     list_all (may_do (rights_declared w.tree task) w.scope.known) (map (wanting field a) (regions_named rs)) ≡ true →
     MayReach (forms_by handing keeping w.tree task) w rs field (mode_in a)
@@ -135,22 +133,6 @@ reach_may handing keeping task w sound h falls field sp a (Some (place.Name i) �
     )
 reach_may handing keeping task w sound h falls field sp a (Some (place.Child p c) ∷ rs) among e = absurd among
 reach_may handing keeping task w sound h falls field sp a (None ∷ rs) among e = reach_may handing keeping task w sound h falls field sp a rs among e
-
--- so of a field of what a name's pointer goes to
-pub aimed_may : (handing keeping : Bool) (marked : FieldMarks) (task : TaskTree) (w : Where) → IsSoundTask w.tree task → KnowsHead w.tree task w.scope → Falls w.scope.next w.scope.names →
-    (n f : Name) (a : Access) → (p : IsAimed keeping marked w.tree w.scope.names (bound w n).static_type f) →
-    lacks w.tree task w.scope (wanted_of_step w.tree a (field_of (bound w n).static_type f)) ≡ false → MayGo (forms_by handing keeping w.tree task) w n f (mode_in a)
-aimed_may handing keeping marked task w sound h falls n f a p lacking =
-    let t = (bound w n).static_type in
-    let field = field_place w.tree (space_in t) f in
-    let wants = map (wanting field a) (regions_named p.reaches) in
-    let allowed : lacks w.tree task w.scope (cond (has_field w.tree (space_in t) f && not (has_wild p.reaches)) wants []) ≡ false =
-    subst (λ u. lacks w.tree task w.scope (wanted_of_step w.tree a (field_of u f)) ≡ false) p.is lacking in
-    let some : (has_field w.tree (space_in t) f && not (has_wild p.reaches)) ≡ true =
-    ap (λ b. b && not (has_wild p.reaches)) p.there ∙ ap not p.certain in
-    let all : lacks w.tree task w.scope wants ≡ false = ap (λ b. lacks w.tree task w.scope (cond b wants [])) (sym some) ∙ allowed in
-    subst (λ rs. MayReach (forms_by handing keeping w.tree task) w rs field (mode_in a)) (sym (ap reaches_of p.is))
-    (reach_may handing keeping task w sound h falls field (space_in t) a p.reaches p.among (not-false _ all))
 
 abbrev IsMade : Known → Type 0
 IsMade (Made i) = Unit {0}

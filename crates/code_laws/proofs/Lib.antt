@@ -37,6 +37,8 @@ pub mod Counting
 pub mod Through
 pub mod Going
 pub mod Behind
+pub mod Besides
+pub mod Staying
 pub mod PointerValues
 pub mod Comparing
 pub mod Signs
@@ -55,6 +57,7 @@ pub mod Variables
 pub mod Moving
 pub mod Passing
 pub mod PointerForms
+pub mod Domains
 pub mod Differences
 pub mod Statements
 pub mod Segments
@@ -63,6 +66,7 @@ pub mod Top
 pub mod Typing
 pub mod LocalTypes
 pub mod TypedStatements
+pub mod LocalGoals
 pub mod LocalValues
 pub mod Entries
 pub mod Privileges
@@ -73,6 +77,7 @@ pub mod LocalPlaces
 pub mod LocalSpaced
 pub mod KnownHeads
 pub mod KnownParts
+pub mod KnownGoals
 pub mod LocalGiven
 pub mod LocalCalls
 pub mod LocalDivided
@@ -88,6 +93,7 @@ pub mod LocalCuts
 pub mod LocalDifferences
 pub mod LocalImages
 pub mod LocalStatements
+pub mod LocalDomains
 pub mod LocalAssignments
 pub mod LocalBlocks
 pub mod LocalMarks

@@ -9,7 +9,7 @@ use Rattle.regent_tree.specs.Lookup.{has_task, is_bound}
 use Rattle.regent_tree.specs.Scopes.{bound_as, scope_of}
 use Rattle.regent_tree.specs.StaticTypes.{Reach, task_named}
 use Rattle.regent_tree.specs.Syntax.{Expression, Expressions, Name, TaskTree, access_expr, at_step, no_step}
-use Rattle.regent_tree.specs.Typing.{child_type, colour_of, is_pointer, param_types, params_at, put, put_in, type_of_element}
+use Rattle.regent_tree.specs.Typing.{child_type, colour_of, is_pointer, param_types, params_at, put, put_in, type_of_element, is_disjoint, parent_of}
 use Rattle.regent_tree.specs.declared.facts.Term.{Term}
 use Rattle.regent_tree.specs.declared.facts.Term.TheVariants as term
 use Rattle.regent_tree.specs.declared.types.Kind.{Kind}
@@ -36,7 +36,7 @@ use Rattle.code_laws.specs.Pointers.{CountsAs, IsCounting, PassesInto, passes_po
 use Rattle.code_laws.specs.Simple.{AreAlike, AreRegions, IsPartition, IsRegion, IsScalar, a_partition_type, a_region_type}
 use Rattle.code_laws.specs.Steps.{Forms}
 use Rattle.code_laws.specs.Arguments.{IsCutName, IsHanded, IsHandedPart}
-use Rattle.code_laws.specs.Typed.{ArePassed, IsCallable, IsIndexed, IsPassed, IsTyped}
+use Rattle.code_laws.specs.Typed.{ArePassed, IsCallable, IsIndexed, IsPassed, IsTyped, IsOwnCut}
 use Rattle.expression_laws.proofs.Calls.{IsFlawless, call_parts}
 use Rattle.code_laws.proofs.KnownHeads.{KnowsHead}
 use Rattle.code_laws.proofs.LocalDivided.{may_call}
@@ -51,6 +51,7 @@ use Rattle.code_laws.proofs.Values.{scalar_simple}
 use Rattle.code_laws.proofs.LocalValues.{IsValue, alike_passes, value_counts, value_for_region, value_param, value_read, value_simple}
 use Rattle.code_laws.proofs.LocalElements.{of_region}
 use Rattle.code_laws.proofs.LocalPoints.{IsWell, local_known}
+use Rattle.code_laws.proofs.LocalGoals.{IsRegionAmong}
 
 module _ (handing keeping : Bool) (task : TaskTree) (w : Where) (sound : IsSound w.tree) (sound_task : IsSoundTask w.tree task) (m : Marked)
     (local : IsLocalTree handing keeping m w.tree) (scope : IsSoundScope w.scope) (names : AllKept keeping m w.scope.names) (head : KnowsHead w.tree task w.scope) where
@@ -121,6 +122,8 @@ module _ (handing keeping : Bool) (task : TaskTree) (w : Where) (sound : IsSound
     pub is : e ≡ access_expr name (at_step index no_step)
     pub keeps : keeping ≡ true
     pub cut : IsCutName w name
+    pub own : IsOwnCut w name
+    pub parent : IsRegionAmong w.scope.names (parent_of (bound w name).static_type)
     pub region : IsRegion (typed w (access_expr name (at_step index no_step)))
     pub indexed : IsTyped forms w index
     pub counts : IsCounting (typed w index)
@@ -203,6 +206,8 @@ module _ (handing keeping : Bool) (task : TaskTree) (w : Where) (sound : IsSound
         is = refl;
         keeps = keeps;
         cut = record { named = there; numbers = scope.numbers; partition = subst IsPartition (sym same) (a_partition_type d r (bound w n).number) };
+        own = same ∙ sym (ap (λ t. partition_type (is_disjoint t) (parent_of t) (bound w n).number) same);
+        parent = subst (λ t. IsRegionAmong w.scope.names (parent_of t)) (sym same) among;
         region = subst (λ t. IsRegion (type_of_element w.scope t e)) (sym same)
             (child_region (bound_as w.scope.names r).static_type (term.Child (bound w n).number (colour_of w.scope e)) parent.0);
         indexed = well.is;

@@ -29,11 +29,12 @@ use Rattle.statement_laws.specs.Steady.{ArePlaced}
 use Rattle.value_laws.specs.Spaces.{AreSpaced}
 use Rattle.code_laws.specs.Handing.{forms_by}
 use Rattle.code_laws.specs.Steps.{Forms}
-use Rattle.code_laws.specs.Typed.{AreTypedArms, IsTypedBlock, IsTypedElse, IsTypedForm}
+use Rattle.code_laws.specs.Typed.{AreTypedArms, IsTypedBlock, IsTypedElse, IsTypedForm, IsIndexed, IsTyped}
 use Rattle.code_laws.proofs.KnownHeads.{IsReady, KnowsFacts, head_looping, head_past}
 use Rattle.code_laws.proofs.LocalNames.{AllKept, IsLocalTree, kept_scalar}
 use Rattle.code_laws.proofs.LocalAssignments.{reduce_behind_local, reduce_field_local, reduce_local, set_behind_local, set_field_local, set_local}
-use Rattle.code_laws.proofs.LocalStatements.{bound_local, call_local, domain_local, fill_local, print_local, return_local, test_local}
+use Rattle.code_laws.proofs.LocalDomains.{domain_local}
+use Rattle.code_laws.proofs.LocalStatements.{bound_local, call_local, fill_local, print_local, return_local, test_local}
 use Rattle.code_laws.proofs.LocalDifferences.{begun_local}
 use Rattle.code_laws.proofs.LocalCuts.{both_local, by_field_local, either_local, equal_local}
 use Rattle.code_laws.proofs.LocalImages.{image_local, preimage_local}
@@ -46,6 +47,7 @@ use Rattle.regent_tree.specs.declared.typing.StaticType.{StaticType}
 use Rattle.code_laws.proofs.TypedStatements.{first_stands, sum_scalar}
 use Rattle.code_laws.proofs.Typing.{AreKept, kept_behind, kept_left, kept_right, no_way, no_way_back}
 use Rattle.scalar_form.specs.ScalarForm.{is_scalar_if_said}
+use Rattle.code_laws.proofs.LocalValues.{any_looped}
 
 -- names are among those that have grown of them
 grown_has : {before after : List Bound} → Grown before after → (b : Bound) → Has before b → Has after b
@@ -219,8 +221,10 @@ module _ (handing keeping : Bool) (tree : Tree) (task : TaskTree) (sound : IsSou
           head = head_in_loop tree task sound sound_task local.declared s n domain scope names.head told (kept_left (parts_of_expression domain) (parts_of_block body) k)
               (head_looping tree task s n ty names.head.facts);
         })
-        (subst (λ u. first_in_block tree task u body ≡ None) inner.0 w) in
-        ((d.over, d.is, block.0), behind_loop s n ty body names block.1)
+        (subst (λ u. first_in_block tree task u body ≡ None) inner.0 w) in (
+          any_looped keeping (here s line) domain (IsTyped forms (here s line) domain) (IsIndexed forms (here s line) domain) (IsTypedBlock forms (here first line) body) d.over block.0,
+          behind_loop s n ty body names block.1,
+        )
     form_local s line (for_to_form demanded n from to body) lo k scope names e w =
         let one = and_parts (is_local_expression m from) _ lo in
         let two = and_parts (is_local_expression m to) (is_local_block m body) one.1 in

@@ -1,13 +1,13 @@
 -- Elements of regions that have names, which are pointers, in a text with marked names of which no breach is told.
-use Rattle.std.proofs.Common.{◌≡◌, Bool, List, [], None, false, true, ap, refl, sym, subst, ◌∙◌, not, ℕ, ◌||◌, ◌&&◌}
+use Rattle.std.proofs.Common.{◌≡◌, Bool, List, [], None, false, true, ap, refl, sym, subst, ◌∙◌, not, ℕ, ◌||◌, ◌&&◌, ⊎_elim}
 use Rattle.std.proofs.lemmas.Bool.{and_parts, not-false, not-true}
 use Rattle.plain_values.proofs.Plain.{option_or_parts}
 use Rattle.regent_tree.specs.Accesses.{space_in}
 use Rattle.regent_tree.specs.Lookup.{is_bound}
 use Rattle.regent_tree.specs.Scopes.{bound_as, bound_to}
 use Rattle.regent_tree.specs.StaticTypes.{Reach}
-use Rattle.regent_tree.specs.Syntax.{Expression, Name, TaskTree, access_expr, at_step, call_expr, cast_expr, chain_expr, convert_expr, field_step, is_null_expr, no_step, null_expr, number_expr, prefix_expr, space_expr, truth_expr}
-use Rattle.regent_tree.specs.Typing.{reaches_of, taken_from, type_of_element}
+use Rattle.regent_tree.specs.Syntax.{Expression, Name, TaskTree, access_expr, at_step, call_expr, cast_expr, chain_expr, convert_expr, field_step, is_null_expr, no_step, null_expr, number_expr, prefix_expr, space_expr, truth_expr, Tree}
+use Rattle.regent_tree.specs.Typing.{reaches_of, taken_from, type_of_element, type_of_field}
 use Rattle.regent_tree.specs.declared.facts.Term.TheVariants as place
 use Rattle.regent_tree.specs.declared.types.Kind.{Kind}
 use Rattle.regent_tree.specs.declared.typing.Bound.{Bound}
@@ -26,11 +26,11 @@ use Rattle.check_rules.specs.declared.rule.Rule.TheVariants as rule
 use Rattle.code_rules.specs.Slots.{Where, bound, typed}
 use Rattle.local_form.specs.LocalForm.{Marked, is_among, is_pointing, takes_element}
 use Rattle.code_laws.specs.Handing.{forms_by}
-use Rattle.code_laws.specs.Pointers.{IsCounting}
+use Rattle.code_laws.specs.Pointers.{IsCounting, AreNames, KeepsAs, keeps_index, keeps_plain, keeps_pointer}
 use Rattle.code_laws.specs.Pointers.{AreThere}
-use Rattle.code_laws.specs.Simple.{IsRegion, a_region_type, term_in}
+use Rattle.code_laws.specs.Simple.{IsRegion, a_region_type, term_in, IsPartition, a_partition_type, fits_32, fits_64, fits_truth}
 use Rattle.code_laws.specs.Steps.{Forms}
-use Rattle.code_laws.specs.Typed.{IsOwnRegion, IsPointing, IsTyped}
+use Rattle.code_laws.specs.Typed.{IsOwnRegion, IsPointing, IsTyped, IsBehind, MayGo, element_field, field_behind}
 use Rattle.code_laws.proofs.KnownHeads.{KnowsHead}
 use Rattle.code_laws.proofs.LocalNames.{AllKept, IsKept, IsLocalTree, kept_partition, kept_region, kept_scalar, kept_value, named_kept, value_no_region}
 use Rattle.code_laws.proofs.LocalPlaces.{taking_told}
@@ -38,30 +38,48 @@ use Rattle.code_laws.proofs.LocalPoints.{IsWell, local_known, name_there}
 use Rattle.code_laws.proofs.LocalValues.{IsRegionAmong, IsValue, bound_among, value_counts, value_pointer, value_simple}
 use Rattle.code_laws.proofs.Typing.{no_way, no_way_back, stands_well}
 use Rattle.code_laws.proofs.Values.{scalar_simple}
-use Rattle.code_laws.proofs.Wider.{counting}
+use Rattle.code_laws.proofs.Wider.{counting, any_field}
+use Rattle.code_laws.specs.Arguments.{IsCutName}
+use Rattle.lane_kernels.specs.declared.numbers.FieldKind.{FieldKind}
+use Rattle.lane_kernels.specs.declared.numbers.Mode.TheVariants as mode
+
+-- a field's type has no part
+kept_names : (k : FieldKind) (n : ℕ) (t : StaticType) → KeepsAs k n t → AreNames (reaches_of t)
+kept_names _ n _ (keeps_plain _ _ _ fits_32) = tt
+kept_names _ n _ (keeps_plain _ _ _ fits_64) = tt
+kept_names _ n _ (keeps_plain _ _ _ fits_truth) = tt
+kept_names _ n _ (keeps_index _ k) = tt
+kept_names _ _ _ (keeps_pointer k sp args rs names few) = names
+
+colours_names : (tree : Tree) (t : StaticType) (f : Name) → IsPartition t → AreNames (reaches_of (type_of_field tree t f))
+colours_names tree _ f (a_partition_type d r p) = tt
 
 -- a name that stands alone, an element, a field, null and a cast are pointers of which the regions are known
-pub points_by_form : (w : Where) (e : Expression) → Falls w.scope.next w.scope.names → AreThere w.scope.names (space_in (typed w e)) (reaches_of (typed w e)) →
+pub points_by_form : (forms : Forms) (w : Where) (e : Expression) → Falls w.scope.next w.scope.names →
+    (AreNames (reaches_of (typed w e)) → AreThere w.scope.names (space_in (typed w e)) (reaches_of (typed w e))) → IsTyped forms w e →
     is_pointing e ≡ true → IsPointing w e
-points_by_form w (access_expr n no_step) falls there h = falls
-points_by_form w (access_expr n (at_step e no_step)) falls there h = tt
-points_by_form w (access_expr n (at_step e (field_step f no_step))) falls there h = there
-points_by_form w (access_expr n (field_step f no_step)) falls there h = there
-points_by_form w (access_expr n (at_step e (field_step _ (field_step _ _)))) falls there h = absurd (no_way_back h)
-points_by_form w (access_expr n (at_step e (field_step _ (at_step _ _)))) falls there h = absurd (no_way_back h)
-points_by_form w (access_expr n (at_step e (at_step _ _))) falls there h = absurd (no_way_back h)
-points_by_form w (access_expr n (field_step _ (field_step _ _))) falls there h = absurd (no_way_back h)
-points_by_form w (access_expr n (field_step _ (at_step _ _))) falls there h = absurd (no_way_back h)
-points_by_form w (number_expr _ _) falls there h = absurd (no_way_back h)
-points_by_form w (truth_expr _) falls there h = absurd (no_way_back h)
-points_by_form w (chain_expr _ _) falls there h = absurd (no_way_back h)
-points_by_form w (prefix_expr _ _) falls there h = absurd (no_way_back h)
-points_by_form w (call_expr _ _) falls there h = absurd (no_way_back h)
-points_by_form w (convert_expr _ _) falls there h = absurd (no_way_back h)
-points_by_form w (is_null_expr _) falls there h = absurd (no_way_back h)
-points_by_form w (null_expr _) falls there h = tt
-points_by_form w (cast_expr _ _) falls there h = tt
-points_by_form w (space_expr _ _) falls there h = absurd (no_way_back h)
+points_by_form forms w (access_expr n no_step) falls there fine h = falls
+points_by_form forms w (access_expr n (at_step e no_step)) falls there fine h = tt
+points_by_form forms w (access_expr n (at_step e (field_step f no_step))) falls there fine h =
+    there (kept_names _ _ _ (any_field forms.keeps w n f (element_field w n e f) fine.3).keeps)
+points_by_form forms w (access_expr n (field_step f no_step)) falls there fine h = ⊎_elim
+    (λ (b : IsBehind w n f (field_behind w n f) × MayGo forms w n f mode.Read). there (kept_names _ _ _ b.0.keeps))
+    (λ (c : IsCutName w n). there (colours_names w.tree (bound w n).static_type f c.partition)) fine.1
+points_by_form forms w (access_expr n (at_step e (field_step _ (field_step _ _)))) falls there fine h = absurd (no_way_back h)
+points_by_form forms w (access_expr n (at_step e (field_step _ (at_step _ _)))) falls there fine h = absurd (no_way_back h)
+points_by_form forms w (access_expr n (at_step e (at_step _ _))) falls there fine h = absurd (no_way_back h)
+points_by_form forms w (access_expr n (field_step _ (field_step _ _))) falls there fine h = absurd (no_way_back h)
+points_by_form forms w (access_expr n (field_step _ (at_step _ _))) falls there fine h = absurd (no_way_back h)
+points_by_form forms w (number_expr _ _) falls there fine h = absurd (no_way_back h)
+points_by_form forms w (truth_expr _) falls there fine h = absurd (no_way_back h)
+points_by_form forms w (chain_expr _ _) falls there fine h = absurd (no_way_back h)
+points_by_form forms w (prefix_expr _ _) falls there fine h = absurd (no_way_back h)
+points_by_form forms w (call_expr _ _) falls there fine h = absurd (no_way_back h)
+points_by_form forms w (convert_expr _ _) falls there fine h = absurd (no_way_back h)
+points_by_form forms w (is_null_expr _) falls there fine h = absurd (no_way_back h)
+points_by_form forms w (null_expr _) falls there fine h = tt
+points_by_form forms w (cast_expr _ _) falls there fine h = tt
+points_by_form forms w (space_expr _ _) falls there fine h = absurd (no_way_back h)
 
 -- ---- a name that is bound to a region under its own number
 

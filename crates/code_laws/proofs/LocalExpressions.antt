@@ -247,7 +247,7 @@ module _ (handing keeping : Bool) (task : TaskTree) (w : Where) (sound : IsSound
         (λ own. local_well e s.1 (kept_right (parts_of_pointer p) (parts_of_expression e) (kept_behind node (parts_of_pointer p ++ parts_of_expression e) k)) own)
 
     -- a part that stands as an argument
-    local_part : (e : Expression) → is_part m e ≡ true → AreKept (parts_of_expression e) → first_in_expression w.tree task w.scope e ≡ None →
+    pub local_part : (e : Expression) → is_part m e ≡ true → AreKept (parts_of_expression e) → first_in_expression w.tree task w.scope e ≡ None →
         IsArgument handing keeping task w sound sound_task m local scope names head e
     local_part (access_expr n (at_step e no_step)) lo k told =
         let both = and_parts (is_among m.partitions n) (is_local_expression m e) lo in

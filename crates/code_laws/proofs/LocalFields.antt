@@ -28,7 +28,7 @@ use Rattle.code_laws.specs.Pointers.{AreNames, FieldKeeps, FillsInto, IsAssigned
 use Rattle.code_laws.specs.Simple.{FieldFits, IsInteger, IsRegion, IsScalar, IsSimple, number_index, number_integer, simple_index, simple_integer, simple_space, simple_truth}
 use Rattle.code_laws.specs.Typed.{IsFieldOf}
 use Rattle.code_laws.proofs.LocalTypes.{simple_as_integer, term_fits, term_scalar}
-use Rattle.code_laws.proofs.LocalValues.{AreAmong, IsValue, alike_assigned, alike_filled, pointer_fitting, value_fitting, value_pointer, value_simple}
+use Rattle.code_laws.proofs.LocalValues.{AreAmong, IsValue, alike_assigned, alike_filled, pointer_fitting, value_fitting, value_pointer, value_simple, among_goals, names_aims}
 use Rattle.code_laws.proofs.Typing.{no_way, no_way_back}
 use Rattle.code_laws.proofs.Values.{scalar_simple}
 
@@ -68,7 +68,7 @@ module _ (keeping : Bool) (marked : FieldMarks) (f : Name) where
   pub held_value : (bs : List Bound) (d : TypeTerm) (t : StaticType) → Held d t → AreAmong bs (space_in t) (reaches_of t) → IsValue keeping bs t
   held_value bs d t (held_scalar _ _ s fit) among = value_simple t (scalar_simple t s)
   held_value bs _ _ (held_index k q h) among = value_simple (index_type k) (simple_index k)
-  held_value bs _ _ (held_pointer p k sp args rs q h same names few) among = value_pointer k sp args rs q among
+  held_value bs _ _ (held_pointer p k sp args rs q h same names few) among = value_pointer k sp args rs q (among_goals bs sp rs among)
 
   -- a field whose name isn't marked holds numbers or truths
   pub held_unmarked : (d : TypeTerm) (t : StaticType) → Held d t → is_marked marked f ≡ false → IsScalar t
@@ -114,7 +114,7 @@ module _ (keeping : Bool) (marked : FieldMarks) (f : Name) where
   held_assigned bs known from d t a (held_scalar _ _ s fit) e = alike_assigned keeping from t (value_fitting keeping bs known from t a s e)
   held_assigned bs known from _ _ a (held_index k q h) e = index_into keeping bs known from k q a e
   held_assigned bs known from _ _ a (held_pointer p k sp args rs q h same names few) e =
-      pointer_into keeping bs known from (pointer_type k sp args rs) q (a_pointer_type k sp args rs names) a e
+      pointer_into keeping bs known from (pointer_type k sp args rs) q (a_pointer_type k sp args rs (names_aims rs names)) a e
 
   -- so does what a fill brings, which is no pointer where the field holds indices
   index_fills : (b : Bool) (known : List Known) (from : StaticType) (k : Kind) → b ≡ true → IsSimple from → fits known from (index_type k) ≡ true →
@@ -135,7 +135,7 @@ module _ (keeping : Bool) (marked : FieldMarks) (f : Name) where
   held_fills bs known from d t a plain (held_scalar _ _ s fit) e = alike_filled keeping from t (value_fitting keeping bs known from t a s e)
   held_fills bs known from _ _ a plain (held_index k q h) e = index_fills keeping known from k q (plain h) e
   held_fills bs known from _ _ a plain (held_pointer p k sp args rs q h same names few) e =
-      pointer_fills keeping bs known from (pointer_type k sp args rs) q (a_pointer_type k sp args rs names) a e
+      pointer_fills keeping bs known from (pointer_type k sp args rs) q (a_pointer_type k sp args rs (names_aims rs names)) a e
 
 -- a field of a name's region, where it holds such
 pub held_field : (keeping : Bool) (marked : FieldMarks) (w : Where) (n f : Name) (t : StaticType) → is_bound w.scope.names n ≡ true → IsRegion (bound w n).static_type →

@@ -14,7 +14,7 @@ use Rattle.regent_tree.specs.declared.types.Param.{Param}
 use Rattle.regent_tree.specs.declared.types.TypeTerm.{TypeTerm}
 use Rattle.regent_tree.specs.declared.types.TypeTerm.TheVariants as term
 use Rattle.check_laws.proofs.Parameters.{place_step}
-use Rattle.local_form.specs.LocalForm.{Marked, are_local_fields, are_scalar_params, gives_pointer, gives_scalar, is_among, is_difference, is_index_or_space, is_index_term, is_local_field, is_partition_term, is_pointer_term, is_region_name, is_region_term, marked_by, marked_by_arms, marked_by_else, marked_by_item, marked_by_items, marked_by_task, marked_by_term, marked_field, marked_fields, marked_in, marked_param, marked_params, unmarked, with_either, with_index, with_index_field, with_partition, with_pointer, with_pointer_field, with_region}
+use Rattle.local_form.specs.LocalForm.{Marked, are_local_fields, are_scalar_params, gives_pointer, gives_scalar, is_among, is_difference, is_index_or_space, is_index_term, is_local_field, is_partition_term, is_pointer_term, gives_points, is_region_term, marked_by, marked_by_arms, marked_by_else, marked_by_item, marked_by_items, marked_by_task, marked_by_term, marked_field, marked_fields, marked_in, marked_param, marked_params, unmarked, with_either, with_index, with_index_field, with_partition, with_pointer, with_pointer_field, with_region}
 use Rattle.code_laws.proofs.LocalFields.{FieldMarks, field_pointer, fields_of, IsFieldTerm, field_index, field_scalar}
 use Rattle.code_laws.proofs.Typing.{no_way_back}
 use Rattle.scalar_form.specs.ScalarForm.{is_scalar_term}
@@ -72,7 +72,7 @@ mutual
   fields_stay (if_form arms other) m = else_fields other (marked_by_arms arms m) ∙ arms_fields arms m
   fields_stay (while_form test body) m = block_fields body m
   fields_stay (for_in_form demanded k domain body) m =
-      block_fields body (with_either (is_region_name m domain) k m) ∙ either_fields (is_region_name m domain) k m
+      block_fields body (with_either (gives_points m domain) k m) ∙ either_fields (gives_points m domain) k m
   fields_stay (for_to_form demanded k from to body) m = block_fields body m
   fields_stay (do_form body) m = block_fields body m
   fields_stay _ m = refl

@@ -52,7 +52,7 @@ use Rattle.code_laws.proofs.LocalParams.{names_keep}
 use Rattle.code_laws.proofs.LocalNames.{AllKept, IsKept, IsLocalTree, kept_partition, kept_region, kept_scalar, kept_value, named_kept}
 use Rattle.code_laws.proofs.LocalPoints.{IsWell, local_known, scalar_well}
 use Rattle.code_laws.proofs.LocalTypes.{term_scalar}
-use Rattle.code_laws.proofs.LocalValues.{AreAmong, IsRegionAmong, IsValue, alike_begins, names_among, pointer_fitting, scalar_begins, value_counts, value_fitting, value_pointer, value_simple}
+use Rattle.code_laws.proofs.LocalValues.{AreAmong, IsRegionAmong, IsValue, alike_begins, names_among, pointer_fitting, scalar_begins, value_counts, value_fitting, value_pointer, value_simple, names_aims, goals_aims, among_goals}
 use Rattle.code_laws.proofs.Typing.{no_way, no_way_back, stands_well}
 use Rattle.code_laws.proofs.Values.{scalar_simple}
 use Rattle.code_laws.proofs.Wider.{counting}
@@ -138,8 +138,8 @@ module _ (keeping : Bool) (m : Marked) (keeps : m.keeps ≡ true → keeping ≡
       let named = named_all p p.regions some.1 space (rule_none (wrong_region_in_type tree s.names (term.Pointer p)) rule.Pointer c.0) in
       let reaches = map (looked_up (in_scope s)) p.regions in record {
         keep = some.0;
-        value = value_pointer p.kind _ _ reaches some.0 named.0;
-        written = (a_pointer_type _ _ _ reaches (names_among s.names (place_of_space tree p.space.name) reaches named.0), named.1);
+        value = value_pointer p.kind (place_of_space tree p.space.name) _ reaches some.0 (among_goals s.names (place_of_space tree p.space.name) reaches named.0);
+        written = (a_pointer_type _ _ _ reaches (names_aims reaches (names_among s.names (place_of_space tree p.space.name) reaches named.0)), named.1);
         certain = named.2;
       }
 
@@ -246,7 +246,7 @@ module _ (handing keeping : Bool) (task : TaskTree) (w : Where) (sound : IsSound
   pointer_value _ (value_simple _ simple_truth) e = absurd (no_way_back e)
   pointer_value _ (value_simple _ (simple_space k)) e = absurd (no_way_back e)
   pointer_value _ (value_simple _ (simple_index k)) e = absurd (no_way_back e)
-  pointer_value _ (value_pointer k sp args i q r) e = (q, a_pointer_type k sp args i (names_among w.scope.names sp i r))
+  pointer_value _ (value_pointer k sp args i q r) e = (q, a_pointer_type k sp args i (goals_aims w.scope.names sp i r))
 
   pub is_null_well : (e : Expression) → first_in_expression w.tree task w.scope (is_null_expr e) ≡ None →
       (first_in_expression w.tree task w.scope e ≡ None → Well e) → Well (is_null_expr e)

@@ -39,7 +39,7 @@ use Rattle.code_laws.proofs.LocalMarks.{among_added, among_left}
 use Rattle.code_laws.proofs.LocalNames.{AllKept, IsKept, kept_partition, kept_region, kept_scalar, kept_value}
 use Rattle.code_laws.proofs.LocalPlaces.{named_among, own_among, region_numbered}
 use Rattle.code_laws.proofs.LocalTypes.{IsTakable, takable_index, takable_partition, takable_pointer, takable_region, takable_scalar, takable_space, term_scalar}
-use Rattle.code_laws.proofs.LocalValues.{AreAmong, IsRegionAmong, value_pointer, value_simple}
+use Rattle.code_laws.proofs.LocalValues.{AreAmong, IsRegionAmong, value_pointer, value_simple, among_goals}
 use Rattle.code_laws.proofs.Typing.{no_way_back}
 
 -- ---- what is written
@@ -286,7 +286,7 @@ module _ (keeping : Bool) (tree : Tree) (all : List Param) (m : Marked) (keeps :
   param_kept bs p i (term.Pointer q) same e marked among parent =
       let one = and_parts (goes_to_names m q.regions) (is_among m.indices p.name && is_among m.pointers p.name) e in
       let two = and_parts (is_among m.indices p.name) (is_among m.pointers p.name) one.1 in
-      kept_value (type_at i (term.Pointer q)) (value_pointer _ _ _ _ (keeps (names_keep m q.regions one.0).0) among) two.0 (λ h. two.1)
+      kept_value (type_at i (term.Pointer q)) (value_pointer _ _ _ _ (keeps (names_keep m q.regions one.0).0) (among_goals bs (space_in (type_at i (term.Pointer q))) (reaches_of (type_at i (term.Pointer q))) among)) two.0 (λ h. two.1)
   param_kept bs p i (term.Ispace k) same e marked among parent =
       kept_value (ispace_type k) (value_simple (ispace_type k) (simple_space k)) (and_parts m.keeps (is_among m.indices p.name) e).1 (λ q. absurd (no_way_back q))
   param_kept bs p i (term.Partition d r c) same e marked among parent =

@@ -39,7 +39,7 @@ use Rattle.code_laws.specs.Simple.{IsPartition, IsRegion, a_partition_type, a_re
 use Rattle.code_laws.specs.Typed.{GoesThrough, IsFieldOf, element_field}
 use Rattle.code_laws.specs.Pointers.{IsPointer, a_pointer_type}
 use Rattle.code_laws.proofs.LocalFields.{IsHeld, held_field, term_held}
-use Rattle.code_laws.proofs.LocalValues.{AreAmong, IsValue, names_among, value_is_no_region, value_pointer, value_simple}
+use Rattle.code_laws.proofs.LocalValues.{AreAmong, IsValue, names_among, value_is_no_region, value_pointer, value_simple, AreGoals, goals_aims}
 use Rattle.code_laws.proofs.LocalTypes.{simple_is_no_region}
 use Rattle.code_laws.proofs.Typing.{no_way, no_way_back}
 use Rattle.code_laws.proofs.Typing.{first_below}
@@ -232,7 +232,7 @@ pub record IsAimed (keeping : Bool) (marked : FieldMarks) (tree : Tree) (bs : Li
   pub reaches : List Reach
   pub is : t ≡ pointer_type kind (space_in t) args reaches
   pub there : has_field tree (space_in t) f ≡ true
-  pub among : AreAmong bs (space_in t) reaches
+  pub among : AreGoals bs (space_in t) reaches
   pub certain : has_wild reaches ≡ false
   pub field : field_place tree (space_in t) f < length (space_at tree (space_in t)).fields
   pub held : IsHeld keeping marked f (field_term tree (space_in t) (field_place tree (space_in t) f)) (type_of_field tree t f)
@@ -253,7 +253,7 @@ module _ (handing keeping : Bool) (tree : Tree) (sound : IsSound tree) (m : Mark
       let found = field_found handing keeping tree sound m local bs names sp args f spaced.args there in
       let certain = wild_told tree (field_of t f) e in record {
         keeps = q;
-        pointer = a_pointer_type k sp args rs (names_among bs sp rs r);
+        pointer = a_pointer_type k sp args rs (goals_aims bs sp rs r);
         kind = k;
         args = args;
         reaches = rs;

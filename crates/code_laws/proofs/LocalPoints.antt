@@ -30,7 +30,8 @@ use Rattle.code_laws.specs.Arguments.{IsCutName}
 use Rattle.code_laws.specs.Simple.{IsPartition, IsScalar, IsSimple}
 use Rattle.code_laws.specs.Steps.{Forms}
 use Rattle.code_laws.specs.Typed.{IsTyped, MayTouch, IsBehind, MayGo, field_behind}
-use Rattle.code_laws.proofs.KnownHeads.{KnowsHead, granted_at, kept_may, aimed_may}
+use Rattle.code_laws.proofs.KnownHeads.{KnowsHead, granted_at, kept_may}
+use Rattle.code_laws.proofs.KnownGoals.{aimed_may}
 use Rattle.code_laws.proofs.LocalFields.{IsHeld, fields_of, held_keeps, held_simple, held_unmarked, held_value}
 use Rattle.code_laws.proofs.LocalNames.{AllKept, IsLocalTree, named_kept}
 use Rattle.code_laws.proofs.LocalPlaces.{spaced_name, IsPlace, element_known, place_is, taking_told, IsAimed, aimed_at}

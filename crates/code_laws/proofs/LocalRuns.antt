@@ -167,13 +167,21 @@ no_premise tree e = absurd (no_way e)
 no_pointers : (tree : Tree) → true ≡ false → HasNoPointers tree
 no_pointers tree e = absurd (no_way e)
 
+-- such a program is typed
+module _ (tree : Tree) (inputs : List ℤ) (p : IsLocalProgramRun tree inputs) where
+  pub local_tasks : AreTypedBy true true tree
+  local_tasks = every_task true true tree inputs p (no_premise tree) (no_pointers tree) (λ q. q)
+
+  pub local_run : IsTypedRun (forms_by true true tree (task_named tree (entry_name tree))) tree inputs
+  local_run = the_run true true tree inputs p (no_premise tree) (no_pointers tree) (λ q. q)
+
 pub accepted_programs_run_as_meant : AcceptedProgramsRunAsMeant
 accepted_programs_run_as_meant tree inputs turns few p = regions_are_handed_as_meant true tree inputs turns few
-    (every_task true true tree inputs p (no_premise tree) (no_pointers tree) (λ q. q)) (the_run true true tree inputs p (no_premise tree) (no_pointers tree) (λ q. q))
+    (local_tasks tree inputs p) (local_run tree inputs p)
 
 pub accepted_programs_end_well : AcceptedProgramsEndWell
 accepted_programs_end_well tree inputs turns few p = handing_programs_end_well true tree inputs turns few
-    (every_task true true tree inputs p (no_premise tree) (no_pointers tree) (λ q. q)) (the_run true true tree inputs p (no_premise tree) (no_pointers tree) (λ q. q))
+    (local_tasks tree inputs p) (local_run tree inputs p)
 
 -- ---- regions that are kept
 

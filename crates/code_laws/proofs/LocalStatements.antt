@@ -1,6 +1,6 @@
 -- Statements without blocks, of a text with marked names, of which no breach is told, are typed, and the heads of loops.
-use Rattle.std.proofs.Common.{inr, ◌≡◌, Bool, List, [], ◌∷◌, None, Option, Some, false, true, ap, sym, subst, ℕ, ◌∙◌, not, refl, ⊎_elim, ◌||◌}
-use Rattle.std.specs.Prelude.{flat_map, length, map, ◌&&◌}
+use Rattle.std.proofs.Common.{◌≡◌, Bool, List, [], ◌∷◌, None, Option, Some, false, true, ap, sym, subst, ℕ, ◌∙◌, not, refl, ⊎_elim, ◌||◌}
+use Rattle.std.specs.Prelude.{flat_map, length, map}
 use Rattle.std.specs.List.{list_all, list_any}
 use Rattle.std.proofs.Math.Bool.{or-true}
 use Rattle.std.proofs.lemmas.Bool.{and_parts, not-false, not-true, or_parts}
@@ -10,24 +10,20 @@ use Rattle.regent_tree.specs.Accesses.{args_in, space_in}
 use Rattle.regent_tree.specs.Limits.{parts_of_expression, parts_of_expressions, parts_of_value}
 use Rattle.regent_tree.specs.Lookup.{is_bound, type_named}
 use Rattle.regent_tree.specs.Scopes.{Scope, bound_to}
-use Rattle.regent_tree.specs.StaticTypes.{field_place, field_type, Reach}
-use Rattle.regent_tree.specs.Syntax.{Expression, Expressions, Name, TaskTree, Tree, call_form, fill_form, print_form, return_form, access_expr, no_step}
-use Rattle.regent_tree.specs.Typing.{type_of, taken_from}
-use Rattle.regent_tree.specs.declared.facts.Term.TheVariants as place
+use Rattle.regent_tree.specs.StaticTypes.{field_place, field_type}
+use Rattle.regent_tree.specs.Syntax.{Expression, Expressions, Name, TaskTree, Tree, call_form, fill_form, print_form, return_form}
+use Rattle.regent_tree.specs.Typing.{type_of}
 use Rattle.regent_tree.specs.declared.rights.Access.TheVariants as access
 use Rattle.regent_tree.specs.declared.typing.StaticType.{StaticType}
 use Rattle.check_laws.proofs.Blocks.{head_known}
 use Rattle.check_laws.proofs.Variables.{parts_of_form as told_of_form}
 use Rattle.check_laws.specs.SoundScopes.{IsSoundScope}
-use Rattle.check_rules.specs.declared.rule.Rule.TheVariants as rule
-use Rattle.check_rules.proofs.Untold.{rule_none}
 use Rattle.check_rules.specs.first.FirstInExpressions.{first_in_expression, first_of_call}
 use Rattle.check_rules.specs.first.FirstInStatements.{first_of_form}
-use Rattle.check_rules.specs.first.Rules.{rule_if}
 use Rattle.check_rules.specs.rules.Formats.{is_count, numbers_in}
 use Rattle.check_rules.specs.rules.Names.{is_unknown_region_field}
 use Rattle.check_rules.specs.rules.Privileges.{may_do, rights_declared, wanted_of_region, wanting}
-use Rattle.check_rules.specs.rules.Standing.{domain_spot, integer_spot, stands, truth_spot, typed_spot}
+use Rattle.check_rules.specs.rules.Standing.{integer_spot, stands, truth_spot, typed_spot}
 use Rattle.check_rules.specs.rules.Statements.{known_result}
 use Rattle.check_rules.specs.rules.Types.{is_ill_typed_at_place, may_stand}
 use Rattle.check_rules.specs.scopes.Sound.{IsSound, IsSoundTask}
@@ -38,28 +34,23 @@ use Rattle.check_rules.specs.types.Lookup.{names_a, region_has}
 use Rattle.check_rules.specs.types.Sorts.{is_region, may_be}
 use Rattle.check_rules.specs.types.TypedForms.{calling}
 use Rattle.code_rules.specs.Slots.{Where}
-use Rattle.local_form.specs.LocalForm.{Marked, are_local_arguments, are_local_expressions, fills_apart, gives_pointer, is_among, is_local_expression, is_local_form, is_local_domain, is_region_name}
+use Rattle.local_form.specs.LocalForm.{Marked, are_local_arguments, are_local_expressions, fills_apart, gives_pointer, is_among, is_local_expression, is_local_form}
 use Rattle.code_laws.specs.Handing.{forms_by}
-use Rattle.code_laws.specs.Simple.{IsInteger, IsRegion, IsSimple, IsSpace, IsTruth, term_in, a_space_type, simple_index}
+use Rattle.code_laws.specs.Simple.{IsInteger, IsRegion, IsSimple, IsTruth, term_in}
 use Rattle.code_laws.specs.Steps.{Forms}
-use Rattle.code_laws.specs.Typed.{AreFilled, IsTyped, IsTypedForm, MayFill, LoopsOver}
+use Rattle.code_laws.specs.Typed.{AreFilled, IsTyped, IsTypedForm, MayFill}
 use Rattle.expression_laws.proofs.Steps.{all_has}
 use Rattle.code_laws.proofs.KnownHeads.{IsReady, KnowsHead, kept_may}
-use Rattle.code_laws.proofs.LocalParts.{all_behind, none_given, region_wants, region_named}
+use Rattle.code_laws.proofs.LocalParts.{all_behind, none_given, region_wants}
 use Rattle.code_laws.proofs.LocalExpressions.{local_call, local_numbers}
 use Rattle.code_laws.proofs.LocalFields.{fields_of, held_field, held_fills}
-use Rattle.code_laws.proofs.LocalNames.{IsKept, IsLocalTree, kept_region, kept_scalar, named_kept, kept_value, kept_partition}
+use Rattle.code_laws.proofs.LocalNames.{IsKept, IsLocalTree, named_kept}
 use Rattle.code_laws.proofs.LocalPlaces.{field_is, region_is, spaced_name}
 use Rattle.code_laws.proofs.LocalTypes.{either}
 use Rattle.code_laws.proofs.TypedStatements.{count_types, counted, first_stands, listed_told, result_fits, told_later, told_names, told_privileges}
-use Rattle.code_laws.proofs.Typing.{no_way, AreKept, no_way_back}
-use Rattle.code_laws.proofs.Values.{scalar_simple}
+use Rattle.code_laws.proofs.Typing.{no_way, AreKept}
 use Rattle.scalar_form.specs.ScalarForm.{is_scalar_if_said}
-use Rattle.code_laws.proofs.LocalValues.{IsValue, space_looped, value_domain, value_integer, value_pointer, value_read, value_simple, value_truth}
-use Rattle.code_laws.specs.Pointers.{IsRead}
-use Rattle.regent_tree.specs.declared.types.Kind.{Kind}
-use Rattle.regent_tree.specs.declared.typing.StaticType.TheVariants.{Index as index_type, Region as region_type}
-use Rattle.code_laws.proofs.LocalElements.{own_region, region_among, region_bound, region_of_space}
+use Rattle.code_laws.proofs.LocalValues.{IsValue, value_integer, value_truth}
 use Rattle.code_laws.proofs.LocalVariables.{at, headed, stands_as}
 
 module _ (handing keeping : Bool) (tree : Tree) (task : TaskTree) (sound : IsSound tree) (sound_task : IsSoundTask tree task) (m : Marked)
@@ -190,63 +181,3 @@ module _ (handing keeping : Bool) (tree : Tree) (task : TaskTree) (sound : IsSou
   bound_local s line y lo k scope names told may =
       let a = headed handing keeping tree task sound sound_task m local params result s line y lo k scope names told in
       (value_integer keeping s.names (type_of tree s y) a.value (stands_as handing keeping tree task sound sound_task m local params result s y integer_spot scope told may), a.is)
-
-  -- over what a loop goes, and what it takes
-  pub record IsDomain (s : Scope) (line : ℕ) (n : Name) (y : Expression) : Type 0 where
-    pub over : LoopsOver keeping (here s line) y
-    pub is : IsTyped forms (here s line) y
-    pub taken : IsKept keeping m s.names n s.next (taken_from (type_of tree s y))
-
-  index_kept : (s : Scope) (n : Name) (t : StaticType) → IsSpace t → is_among m.indices n ≡ true → IsKept keeping m s.names n s.next (taken_from t)
-  index_kept s n _ (a_space_type k) marked = kept_value (index_type k) (value_simple (index_type k) (simple_index k)) marked (λ p. absurd (no_way_back p))
-
-  space_domain : (s : Scope) (line : ℕ) (n : Name) (y : Expression) → is_among m.indices n ≡ true → IsTyped forms (here s line) y →
-      IsValue keeping s.names (type_of tree s y) → may_stand s.known (stands (type_of tree s y) domain_spot) ≡ true → IsDomain s line n y
-  space_domain s line n y marked is value may =
-      let space = value_domain keeping s.names (type_of tree s y) value may in
-      record { over = space_looped keeping (here s line) y space; is = is; taken = index_kept s n (type_of tree s y) space marked }
-
-  -- the name of a region, whose pointers are taken
-  region_domain : (s : Scope) (line : ℕ) (n r : Name) → IsSoundScope s → is_bound s.names r ≡ true → is_among m.indices n ≡ true → is_among m.pointers n ≡ true →
-      keeping ≡ true → (k : Kind) (sp : ℕ) (args : List Reach) → (bound_to s.names r).static_type ≡ region_type k sp args (place.Name (bound_to s.names r).number) →
-      IsDomain s line n (access_expr r no_step)
-  region_domain s line n r scope there marked points keeps k sp args same =
-      let b = bound_to s.names r in
-      let own = own_region (here s line) scope.numbers r there k sp args same in record {
-        over = subst (λ c. LoopsOver c (here s line) (access_expr r no_step)) (sym keeps) (inr (region_bound s.next s.names scope.numbers r there k sp args same, own));
-        is = (there, subst (λ c. IsRead c b.static_type) (sym keeps) tt);
-        taken = subst (λ t. IsKept keeping m s.names n s.next (taken_from t)) (sym same)
-            (kept_value _ (value_pointer k sp args _ keeps (
-              region_among s.next s.names scope.numbers r there k sp args same,
-              region_of_space s.next s.names scope.numbers r there k sp args same,
-              tt,
-            )) marked (λ p. points));
-      }
-
-  named_domain : (s : Scope) (line : ℕ) (n r : Name) → IsSoundScope s → is_bound s.names r ≡ true → is_among m.indices n ≡ true → is_among m.pointers n ≡ true →
-      keeping ≡ true → may_stand s.known (stands (bound_to s.names r).static_type domain_spot) ≡ true → (t : StaticType) → (bound_to s.names r).static_type ≡ t →
-      IsKept keeping m s.names r (bound_to s.names r).number t → IsDomain s line n (access_expr r no_step)
-  named_domain s line n r scope there marked points keeps may t same (kept_scalar _ a) =
-      let value = subst (IsValue keeping s.names) (sym same) (value_simple t (scalar_simple t a)) in
-      space_domain s line n (access_expr r no_step) marked (there, value_read keeping s.names (bound_to s.names r).static_type value) value may
-  named_domain s line n r scope there marked points keeps may t same (kept_value _ a h p) =
-      let value = subst (IsValue keeping s.names) (sym same) a in
-      space_domain s line n (access_expr r no_step) marked (there, value_read keeping s.names (bound_to s.names r).static_type value) value may
-  named_domain s line n r scope there marked points keeps may _ same (kept_region k sp args h) =
-      region_domain s line n r scope there marked points keeps k sp args same
-  named_domain s line n r scope there marked points keeps may _ same (kept_partition d q kept among h) =
-      absurd (no_way_back (subst (λ t. may_stand s.known (stands t domain_spot) ≡ true) same may))
-
-  pub domain_local : ((q : Name) → is_among m.pointers q ≡ true → keeping ≡ true) → (s : Scope) (line : ℕ) (n : Name) (y : Expression) → is_among m.indices n ≡ true →
-      is_local_domain m n y ≡ true → AreKept (parts_of_expression y) → IsSoundScope s → Ready s → first_in_expression tree task s y ≡ None →
-      may_stand s.known (stands (known_type tree s y) domain_spot) ≡ true → IsDomain s line n y
-  domain_local keeps s line n y marked lo k scope names told may = ⊎_elim
-      (λ h. let both = and_parts (is_region_name m y) (is_among m.pointers n) h in
-      let r = region_named m y both.0 in
-      let there = not-false (is_bound s.names r.0) (rule_none (not (is_bound s.names r.0)) rule.Name
-      (option_or_parts (rule_if (not (is_bound s.names r.0)) rule.Name) _ (subst (λ x. first_in_expression tree task s x ≡ None) r.1 told)).0) in
-      subst (IsDomain s line n) (sym r.1) (named_domain s line n r.0 scope there marked both.1 (keeps n both.1)
-      (subst (λ x. may_stand s.known (stands (type_of tree s x) domain_spot) ≡ true) r.1 (stands_as handing keeping tree task sound sound_task m local params result s y domain_spot scope told may))
-      (bound_to s.names r.0).static_type refl (named_kept keeping m s.names r.0 names.names there)))
-      (λ h. let a = headed handing keeping tree task sound sound_task m local params result s line y h k scope names told in space_domain s line n y marked a.is a.value (stands_as handing keeping tree task sound sound_task m local params result s y domain_spot scope told may))
-      (either (is_region_name m y && is_among m.pointers n) (is_local_expression m y) lo)

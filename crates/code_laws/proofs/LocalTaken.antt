@@ -11,7 +11,7 @@ use Rattle.code_rules.specs.Slots.{Where}
 use Rattle.code_laws.specs.Pointers.{GoesInto, IsPointer, Passes, PassesInto, a_pointer_type, passes_plain, fills_index, into_index, into_plain, into_space}
 use Rattle.code_laws.specs.Simple.{IsPartition, IsRegion, IsScalar, a_partition_type, a_region_type, number_index, number_integer, scalar_integer, scalar_truth, simple_index, simple_integer, simple_space, simple_truth}
 use Rattle.code_laws.proofs.Typing.{no_way_back}
-use Rattle.code_laws.proofs.LocalValues.{IsValue, names_among, value_pointer, value_simple}
+use Rattle.code_laws.proofs.LocalValues.{IsValue, goals_aims, value_pointer, value_simple}
 
 -- what has no value of its own as an expression: a partition, and an element of a region
 pub data IsOther : StaticType → Type 0 where
@@ -59,7 +59,7 @@ module _ (w : Where) where
   pub pointer_param : (b : Bool) (t : StaticType) (k : Kind) (sp : ℕ) (args rs : List Reach) → b ≡ true → IsValue b w.scope.names t →
       may_stand w.scope.known (stands t (param_spot (pointer_type k sp args rs))) ≡ true → IsPointer t
   pointer_param false t k sp args rs q a e = absurd (no_way_back q)
-  pointer_param true _ k sp args rs q (value_pointer j sq brgs us h r) e = a_pointer_type j sq brgs us (names_among w.scope.names sq us r)
+  pointer_param true _ k sp args rs q (value_pointer j sq brgs us h r) e = a_pointer_type j sq brgs us (goals_aims w.scope.names sq us r)
   pointer_param true _ k sp args rs q (value_simple _ (simple_integer v)) e = absurd (no_way_back e)
   pointer_param true _ k sp args rs q (value_simple _ (simple_index j)) e = absurd (no_way_back e)
   pointer_param true _ k sp args rs q (value_simple _ simple_truth) e = absurd (no_way_back e)

@@ -28,7 +28,7 @@ use Rattle.check_rules.specs.first.FirstInItems.{first_declared, first_line}
 use Rattle.check_rules.specs.rules.Repeats.{Given, given_by, repeats, repeats_after, repeats_within, was_given}
 use Rattle.check_rules.specs.scopes.Sound.{StandsIn}
 use Rattle.code_rules.specs.Instructions.{tasks_of}
-use Rattle.local_form.specs.LocalForm.{Marked, all_go_back, are_local_params, are_scalar_params, is_among, is_local_param, is_local_block, is_local_item, is_local_program, is_local_task, gives_pointer, gives_scalar, is_difference, is_region_name, marked_by, marked_by_arms, marked_by_else, marked_by_items, marked_by_task, marked_by_term, marked_in, marked_params, unmarked, with_either, with_partition}
+use Rattle.local_form.specs.LocalForm.{Marked, all_go_back, are_local_params, are_scalar_params, is_among, is_local_param, is_local_block, is_local_item, is_local_program, is_local_task, gives_pointer, gives_scalar, is_difference, gives_points, marked_by, marked_by_arms, marked_by_else, marked_by_items, marked_by_task, marked_by_term, marked_in, marked_params, unmarked, with_either, with_partition}
 use Rattle.state_laws.proofs.Texts.{declarations_are}
 use Rattle.code_laws.proofs.LocalFields.{fields_of}
 use Rattle.code_laws.specs.Simple.{IsScalar}
@@ -155,7 +155,7 @@ module _ (n : Name) where
     marks_stay (if_form arms other) m h = marks_stay_else other (marked_by_arms arms m) (marks_stay_arms arms m h)
     marks_stay (while_form test body) m h = marks_stay_in body m h
     marks_stay (for_in_form demanded k domain body) m h =
-        marks_stay_in body (with_either (is_region_name m domain) k m) (subst (λ rs. is_among rs n ≡ true) (sym (either_regions (is_region_name m domain) k m)) h)
+        marks_stay_in body (with_either (gives_points m domain) k m) (subst (λ rs. is_among rs n ≡ true) (sym (either_regions (gives_points m domain) k m)) h)
     marks_stay (for_to_form demanded k from to body) m h = marks_stay_in body m h
     marks_stay (do_form body) m h = marks_stay_in body m h
     marks_stay _ m h = h

@@ -1,14 +1,10 @@
 -- What expressions give where nothing is told of their types: numbers, truths, indices and index spaces, and where they
 -- are kept also pointers into regions that have names.
-use Rattle.std.proofs.Common.{◌≡◌, Bool, List, [], ◌∷◌, ◌++◌, None, Some, false, true, refl, ap, subst, sym, ℕ, ◌<◌, ◌∙◌, ◌||◌, cond, not, inl, inr, arith, ⊎_elim, ◌&&◌, ◌⊎◌}
-use Rattle.std.specs.Prelude.{bytes_eq, ◌==◌}
+use Rattle.std.proofs.Common.{◌≡◌, Bool, List, [], ◌∷◌, ◌++◌, false, true, refl, ap, subst, sym, ℕ, ◌∙◌, ◌||◌, cond, not, inl, inr, ⊎_elim, ◌&&◌, ◌⊎◌}
 use Rattle.std.proofs.lemmas.Bool.{and_parts}
-use Rattle.regent_tree.proofs.Members.{Has, Has-append_left}
-use Rattle.regent_tree.specs.Lookup.{is_bound}
-use Rattle.regent_tree.specs.Scopes.{bound_as, bound_to, known_of_type}
+use Rattle.regent_tree.specs.Scopes.{known_of_type}
 use Rattle.regent_tree.specs.StaticTypes.{Reach}
-use Rattle.regent_tree.specs.Syntax.{Name, Expression}
-use Rattle.regent_tree.specs.Accesses.{space_in}
+use Rattle.regent_tree.specs.Syntax.{Expression}
 use Rattle.regent_tree.specs.Typing.{are_pointers, counting_as, is_pointer, known_of_child, operated, owned}
 use Rattle.regent_tree.specs.declared.expression.Arithmetic.{Arithmetic}
 use Rattle.regent_tree.specs.declared.expression.Comparison.{Comparison}
@@ -17,14 +13,11 @@ use Rattle.regent_tree.specs.declared.expression.Operator.{Operator}
 use Rattle.regent_tree.specs.declared.expression.Operator.TheVariants.{Compute}
 use Rattle.regent_tree.specs.declared.expression.Sign.{Sign}
 use Rattle.regent_tree.specs.declared.facts.Known.{Known}
-use Rattle.regent_tree.specs.declared.facts.Term.TheVariants as place
 use Rattle.regent_tree.specs.declared.types.Kind.{Kind}
 use Rattle.regent_tree.specs.declared.types.NumberTerm.{NumberTerm}
 use Rattle.regent_tree.specs.declared.typing.Bound.{Bound}
 use Rattle.regent_tree.specs.declared.typing.StaticType.{StaticType}
 use Rattle.regent_tree.specs.declared.typing.StaticType.TheVariants.{Index as index_type, Pointer as pointer_type, Unknown as unknown_type}
-use Rattle.check_laws.proofs.Scopes.{differ}
-use Rattle.check_laws.specs.SoundScopes.{Falls}
 use Rattle.check_rules.specs.rules.Standing.{param_spot, stands}
 use Rattle.check_rules.specs.rules.Types.{compares_with, computes_with, has_equality_with, has_order_with, may_stand, operates_on}
 use Rattle.check_rules.specs.types.Fitting.{fits}
@@ -32,102 +25,19 @@ use Rattle.check_rules.specs.types.KnownTypes.{known_type_after_operator}
 use Rattle.check_rules.specs.types.Sorts.{is_collection, is_integer, is_number, is_partition, is_region, is_space, is_truth, is_unknown_type, may_be}
 use Rattle.check_rules.specs.types.TypedForms.{computing}
 use Rattle.code_rules.specs.Slots.{Where, typed}
-use Rattle.code_laws.specs.Pointers.{AreNames, AreThere, Assigned, BeginsAs, BeginsWith, ConvertsTo, CountsAs, FillsInto, IsAssigned, IsCompared, IsPointer, IsRead, Passes, PassesInto, SignedAs, passes_plain, assigned_plain, assigned_pointer, begins_plain, compared_different, compared_equal, compared_left, compared_plain, compared_right, a_pointer_type, counts_number, counts_pointer, filled_plain, fills_alike, fills_index, into_index, into_plain, itself_plain, signs_plain, term_integer, zero_scalar}
-use Rattle.code_laws.specs.Simple.{AreAlike, AreComparable, IsInteger, IsIntegerTerm, IsNumber, IsRegion, IsScalar, IsSimple, IsSpace, IsTruth, SignsFit, a_region_type, number_index, number_integer, scalar_integer, scalar_truth, simple_index, simple_integer, simple_space, simple_truth, term_in, IsPartition, a_partition_type}
-use Rattle.code_laws.specs.Typed.{IsKeepable, LoopsOver}
+use Rattle.code_laws.specs.Pointers.{Assigned, BeginsAs, BeginsWith, ConvertsTo, CountsAs, FillsInto, IsAssigned, IsCompared, IsPointer, IsRead, Passes, PassesInto, SignedAs, passes_plain, assigned_plain, assigned_pointer, begins_plain, compared_different, compared_equal, compared_left, compared_plain, compared_right, a_pointer_type, counts_number, counts_pointer, filled_plain, fills_alike, fills_index, into_index, into_plain, itself_plain, signs_plain, term_integer, zero_scalar}
+use Rattle.code_laws.specs.Simple.{AreAlike, AreComparable, IsInteger, IsIntegerTerm, IsNumber, IsRegion, IsScalar, IsSimple, IsSpace, IsTruth, SignsFit, a_region_type, number_index, number_integer, scalar_integer, scalar_truth, simple_index, simple_integer, simple_space, simple_truth, IsPartition, a_partition_type}
+use Rattle.code_laws.specs.Typed.{IsKeepable, LoopsOver, IsLooped, LoopsOverPart}
 use Rattle.code_laws.proofs.LocalTypes.{either, number_is, operated_simple, owned_simple, param_fitting, simple_as_domain, simple_as_integer, simple_as_number, simple_as_space, simple_as_truth, simple_compared, simple_computed, simple_fitting, simple_for_region, simple_is_no_region, simple_known, simple_no_partition}
 use Rattle.code_laws.proofs.Typing.{no_way, no_way_back}
-
--- ---- regions that are bound
-
--- a region is bound with a number, which is its term's
-pub record IsRegionAmong (bs : List Bound) (i : ℕ) : Type 0 where
-  pub named : Bound
-  pub among : Has bs named
-  pub number : named.number ≡ i
-  pub region : IsRegion named.static_type
-  pub term : term_in named.static_type ≡ place.Name i
-
-pub region_behind : (b : Bound) (bs : List Bound) (i : ℕ) → IsRegionAmong bs i → IsRegionAmong (b ∷ bs) i
-region_behind b bs i r = record { named = r.named; among = inr r.among; number = r.number; region = r.region; term = r.term }
-
-pub region_before : (bs more : List Bound) (i : ℕ) → IsRegionAmong bs i → IsRegionAmong (bs ++ more) i
-region_before bs more i r =
-    record { named = r.named; among = Has-append_left bs more r.named r.among; number = r.number; region = r.region; term = r.term }
-
--- so is each region of a list, of a field space, but those that may be any
-abbrev pub AreAmong : List Bound → ℕ → List Reach → Type 0
-AreAmong bs sp [] = Unit {0}
-AreAmong bs sp (Some (place.Name i) ∷ rs) = (r : IsRegionAmong bs i) × (space_in r.named.static_type ≡ sp) × AreAmong bs sp rs
-AreAmong bs sp (Some (place.Child p c) ∷ rs) = ⊥
-AreAmong bs sp (None ∷ rs) = AreAmong bs sp rs
-
-among_behind : (b : Bound) (bs : List Bound) (sp : ℕ) (rs : List Reach) → AreAmong bs sp rs → AreAmong (b ∷ bs) sp rs
-unfolding region_behind
-among_behind b bs sp [] a = tt
-among_behind b bs sp (Some (place.Name i) ∷ rs) a = (region_behind b bs i a.0, a.1, among_behind b bs sp rs a.2)
-among_behind b bs sp (Some (place.Child p c) ∷ rs) a = absurd a
-among_behind b bs sp (None ∷ rs) a = among_behind b bs sp rs a
-
-among_before : (bs more : List Bound) (sp : ℕ) (rs : List Reach) → AreAmong bs sp rs → AreAmong (bs ++ more) sp rs
-unfolding region_before
-among_before bs more sp [] a = tt
-among_before bs more sp (Some (place.Name i) ∷ rs) a = (region_before bs more i a.0, a.1, among_before bs more sp rs a.2)
-among_before bs more sp (Some (place.Child p c) ∷ rs) a = absurd a
-among_before bs more sp (None ∷ rs) a = among_before bs more sp rs a
-
--- they have names
-pub names_among : (bs : List Bound) (sp : ℕ) (rs : List Reach) → AreAmong bs sp rs → AreNames rs
-names_among bs sp [] a = tt
-names_among bs sp (Some (place.Name i) ∷ rs) a = names_among bs sp rs a.2
-names_among bs sp (Some (place.Child p c) ∷ rs) a = absurd a
-names_among bs sp (None ∷ rs) a = names_among bs sp rs a
-
--- what a name is bound to is among what is bound
-pub bound_among : (bs : List Bound) (n : Name) → is_bound bs n ≡ true → Has bs (bound_to bs n)
-bound_among [] n e = absurd (no_way_back e)
-bound_among (b ∷ bs) n e = chosen (bytes_eq b.name n) (bound_among bs n) e
-  where
-    chosen : (c : Bool) → (is_bound bs n ≡ true → Has bs (bound_to bs n)) → (c || is_bound bs n) ≡ true → Has (b ∷ bs) (cond c b (bound_to bs n))
-    chosen true more h = inl refl
-    chosen false more h = inr (more h)
-
-same_number : (a b : ℕ) → a ≡ b → (a == b) ≡ true
-same_number a b e = search (arith, e)
-
--- and it is found by its number, where numbers fall
-pub found_among : (next : ℕ) (bs : List Bound) (b : Bound) → Falls next bs → Has bs b → (bound_as bs b.number ≡ b) × (b.number < next)
-found_among next [] b falls h = absurd h
-found_among next (c ∷ bs) b falls (inl same) =
-    let l = falls.0 in
-    let number : c.number ≡ b.number = ap (λ (x : Bound). x.number) same in
-    (ap (λ x. cond x c (bound_as bs b.number)) (same_number c.number b.number number) ∙ same, omega (arith, l, number))
-found_among next (c ∷ bs) b falls (inr h) =
-    let r = found_among c.number bs b falls.1 h in
-    let less = r.1 in
-    let l = falls.0 in
-    (ap (λ x. cond x c (bound_as bs b.number)) (differ c.number b.number less) ∙ r.0, omega (arith, l, less))
-
--- so is each region of such a list
-pub among_there : (next : ℕ) (bs : List Bound) (sp : ℕ) (rs : List Reach) → Falls next bs → AreAmong bs sp rs → AreThere bs sp rs
-among_there next bs sp [] falls a = tt
-among_there next bs sp (Some (place.Name i) ∷ rs) falls a =
-    let r = a.0 in
-    let found : bound_as bs i ≡ r.named = subst (λ j. bound_as bs j ≡ r.named) r.number (found_among next bs r.named falls r.among).0 in (
-      ap (λ (b : Bound). b.number) found ∙ r.number,
-      subst (λ (b : Bound). IsRegion b.static_type) (sym found) r.region,
-      ap (λ (b : Bound). space_in b.static_type) found ∙ a.1,
-      among_there next bs sp rs falls a.2,
-    )
-among_there next bs sp (Some (place.Child p c) ∷ rs) falls a = absurd a
-among_there next bs sp (None ∷ rs) falls a = among_there next bs sp rs falls a
+pub use Rattle.code_laws.proofs.LocalGoals.{AreAmong, AreGoals, IsCutAmong, IsRegionAmong, among_goals, among_there, bound_among, found_among, goals_aims, goals_among, goals_before, goals_behind, names_aims, names_among, region_before, region_behind}
 
 -- ---- values
 
 -- the type of what an expression gives
 pub data IsValue (keeping : Bool) (bs : List Bound) : StaticType → Type 0 where
   value_simple : (t : StaticType) → IsSimple t → IsValue keeping bs t
-  value_pointer : (k : Kind) (sp : ℕ) (args rs : List Reach) → keeping ≡ true → AreAmong bs sp rs → IsValue keeping bs (pointer_type k sp args rs)
+  value_pointer : (k : Kind) (sp : ℕ) (args rs : List Reach) → keeping ≡ true → AreGoals bs sp rs → IsValue keeping bs (pointer_type k sp args rs)
 
 pub counts_is : (keeping : Bool) (t : StaticType) → CountsAs keeping t → is_number t ≡ true
 counts_is false t c = number_is t c
@@ -144,11 +54,11 @@ module _ (keeping : Bool) (bs : List Bound) where
 
   pub value_behind : (b : Bound) (t : StaticType) → Value t → IsValue keeping (b ∷ bs) t
   value_behind b t (value_simple _ a) = value_simple t a
-  value_behind b _ (value_pointer k sp args i q r) = value_pointer k sp args i q (among_behind b bs sp i r)
+  value_behind b _ (value_pointer k sp args i q r) = value_pointer k sp args i q (goals_behind b bs sp i r)
 
   pub value_before : (more : List Bound) (t : StaticType) → Value t → IsValue keeping (bs ++ more) t
   value_before more t (value_simple _ a) = value_simple t a
-  value_before more _ (value_pointer k sp args i q r) = value_pointer k sp args i q (among_before bs more sp i r)
+  value_before more _ (value_pointer k sp args i q r) = value_pointer k sp args i q (goals_before bs more sp i r)
 
   -- ---- what may be of a sort is of it
 
@@ -303,9 +213,9 @@ value_compared true bs c t _ (value_simple _ a) (value_pointer k sp args i q r) 
 value_compared true bs c _ u (value_pointer k sp args i q r) (value_simple _ b) e =
     compared_left c k sp args _ u (simple_as_number u b (compared_numbers c (pointer_type k sp args i) u refl e).1)
 value_compared true bs comparison.Equal _ _ (value_pointer k sp args i q r) (value_pointer j s brgs h p u) e =
-    compared_equal _ _ (a_pointer_type k sp args i (names_among bs sp i r)) (a_pointer_type j s brgs h (names_among bs s h u))
+    compared_equal _ _ (a_pointer_type k sp args i (goals_aims bs sp i r)) (a_pointer_type j s brgs h (goals_aims bs s h u))
 value_compared true bs comparison.NotEqual _ _ (value_pointer k sp args i q r) (value_pointer j s brgs h p u) e =
-    compared_different _ _ (a_pointer_type k sp args i (names_among bs sp i r)) (a_pointer_type j s brgs h (names_among bs s h u))
+    compared_different _ _ (a_pointer_type k sp args i (goals_aims bs sp i r)) (a_pointer_type j s brgs h (goals_aims bs s h u))
 value_compared true bs comparison.Less _ _ (value_pointer k sp args i q r) (value_pointer j s brgs h p u) e = absurd (no_way_back e)
 value_compared true bs comparison.AtMost _ _ (value_pointer k sp args i q r) (value_pointer j s brgs h p u) e = absurd (no_way_back e)
 value_compared true bs comparison.Greater _ _ (value_pointer k sp args i q r) (value_pointer j s brgs h p u) e = absurd (no_way_back e)
@@ -348,7 +258,7 @@ kept_assigned bs known _ _ (value_pointer j sp args i q r) (value_simple _ (simp
 kept_assigned bs known _ _ (value_simple _ simple_truth) (value_simple _ (simple_index k)) c e = absurd (no_way_back e)
 kept_assigned bs known _ _ (value_simple _ (simple_space j)) (value_simple _ (simple_index k)) c e = absurd (no_way_back e)
 kept_assigned bs known _ _ (value_pointer j s brgs h p u) (value_pointer k sp args i q r) c e =
-    assigned_pointer _ _ (a_pointer_type j s brgs h (names_among bs s h u)) (a_pointer_type k sp args i (names_among bs sp i r))
+    assigned_pointer _ _ (a_pointer_type j s brgs h (goals_aims bs s h u)) (a_pointer_type k sp args i (goals_aims bs sp i r))
 kept_assigned bs known _ _ (value_simple _ (simple_integer w)) (value_pointer k sp args i q r) c e = absurd (no_way_back e)
 kept_assigned bs known _ _ (value_simple _ (simple_index j)) (value_pointer k sp args i q r) c e = absurd (no_way_back e)
 kept_assigned bs known _ _ (value_simple _ simple_truth) (value_pointer k sp args i q r) c e = absurd (no_way_back e)
@@ -367,7 +277,7 @@ pointer_fitting b bs known _ _ (value_simple _ (simple_integer w)) (a_pointer_ty
 pointer_fitting b bs known _ _ (value_simple _ (simple_index j)) (a_pointer_type k sp args rs ns) e = absurd (no_way_back e)
 pointer_fitting b bs known _ _ (value_simple _ simple_truth) (a_pointer_type k sp args rs ns) e = absurd (no_way_back e)
 pointer_fitting b bs known _ _ (value_simple _ (simple_space j)) (a_pointer_type k sp args rs ns) e = absurd (no_way_back e)
-pointer_fitting b bs known _ _ (value_pointer j sq brgs i h r) u e = a_pointer_type j sq brgs i (names_among bs sq i r)
+pointer_fitting b bs known _ _ (value_pointer j sq brgs i h r) u e = a_pointer_type j sq brgs i (goals_aims bs sq i r)
 
 pub scalar_begins : (b : Bool) (bs : List Bound) (t : StaticType) → IsScalar t → BeginsAs b bs t
 scalar_begins false bs t p = p
@@ -393,3 +303,17 @@ simple_keepable true w e p = inl p
 pub space_looped : (b : Bool) (w : Where) (e : Expression) → IsSpace (typed w e) → LoopsOver b w e
 space_looped false w e p = p
 space_looped true w e p = inl p
+
+-- what a loop goes over, with its body
+plain_looped : (b : Bool) (w : Where) (e : Expression) (Typed Part Body : Type 0) → LoopsOver b w e → Typed → Body → IsLooped b w e Typed Part Body
+plain_looped false w e Typed Part Body over is body = (over, is, body)
+plain_looped true w e Typed Part Body over is body = inl (over, is, body)
+
+part_looped : (b : Bool) (w : Where) (e : Expression) (Typed Part Body : Type 0) → b ≡ true → LoopsOverPart w e Part → Body → IsLooped b w e Typed Part Body
+part_looped false w e Typed Part Body q over body = absurd (no_way_back q)
+part_looped true w e Typed Part Body q over body = inr (over, body)
+
+pub any_looped : (b : Bool) (w : Where) (e : Expression) (Typed Part Body : Type 0) →
+    (LoopsOver b w e × Typed) ⊎ ((b ≡ true) × LoopsOverPart w e Part) → Body → IsLooped b w e Typed Part Body
+any_looped b w e Typed Part Body (inl o) body = plain_looped b w e Typed Part Body o.0 o.1 body
+any_looped b w e Typed Part Body (inr o) body = part_looped b w e Typed Part Body o.0 o.1 body

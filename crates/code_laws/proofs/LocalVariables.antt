@@ -34,7 +34,7 @@ use Rattle.check_rules.specs.scopes.Variables.{declared_type, is_flawed_initiali
 use Rattle.check_rules.specs.types.Fitting.{fits}
 use Rattle.check_rules.specs.types.KnownTypes.{known_type}
 use Rattle.code_rules.specs.Slots.{Where, typed}
-use Rattle.local_form.specs.LocalForm.{Marked, are_local_links, gives_scalar, is_among, is_kept_apart, is_kept_term, is_local_expression, is_local_form, gives_pointer, is_pointing, keeps_pointer}
+use Rattle.local_form.specs.LocalForm.{Marked, are_local_links, gives_scalar, is_among, is_kept_apart, is_kept_term, is_local_expression, is_local_form, gives_pointer, is_pointing, keeps_pointer, is_part}
 use Rattle.code_laws.specs.Handing.{forms_by, takes_by}
 use Rattle.code_laws.specs.Simple.{IsSimple}
 use Rattle.code_laws.specs.Steps.{Forms}
@@ -43,26 +43,29 @@ use Rattle.code_laws.specs.Typed.{IsTyped, IsTypedForm, IsKeepable}
 use Rattle.code_laws.proofs.Wider.{begun_so}
 use Rattle.code_laws.proofs.KnownHeads.{IsReady, KnowsFacts, KnowsHead, head_made, head_named}
 use Rattle.code_laws.proofs.LocalPoints.{IsWell}
-use Rattle.code_laws.proofs.LocalExpressions.{local_well}
+use Rattle.code_laws.proofs.LocalExpressions.{local_well, local_part}
 use Rattle.code_laws.proofs.LocalNames.{IsKept, IsLocalTree, first_below, kept_region, kept_scalar, named_kept, no_kept_partition, kept_value}
 use Rattle.code_laws.proofs.TypedStatements.{HasNoPartition, first_stands, initial_told}
 use Rattle.code_laws.proofs.Typing.{AreKept, kept_right, no_way, no_way_back}
 use Rattle.scalar_form.specs.ScalarForm.{is_scalar_if_said}
-use Rattle.code_laws.proofs.LocalValues.{IsValue, among_there, names_among, owned_value, simple_keepable, simple_no_pointer, value_pointer, value_simple, value_space, value_tells}
-use Rattle.code_laws.specs.Pointers.{AreThere, IsPointer, a_pointer_type}
+use Rattle.code_laws.proofs.LocalValues.{IsValue, among_there, owned_value, simple_keepable, simple_no_pointer, value_pointer, value_simple, value_space, value_tells, goals_aims, goals_among}
+use Rattle.code_laws.specs.Pointers.{AreThere, IsPointer, a_pointer_type, AreNames}
 use Rattle.code_laws.proofs.LocalElements.{points_by_form}
 use Rattle.code_laws.proofs.LocalNulls.{type_flawless, variable_said}
+use Rattle.code_laws.proofs.LocalArguments.{IsArgument}
 
 -- ---- a name's pointer, or an element
 
-value_keepable : (b : Bool) (w : Where) (e : Expression) (t : StaticType) → typed w e ≡ t → Falls w.scope.next w.scope.names → is_pointing e ≡ true →
-    IsValue b w.scope.names t → IsKeepable b w e
-value_keepable b w e t same falls h (value_simple _ a) = simple_keepable b w e (subst IsSimple (sym same) a)
-value_keepable false w e _ same falls h (value_pointer k sp args i q r) = absurd (no_way_back q)
-value_keepable true w e _ same falls h (value_pointer k sp args i q r) =
+value_keepable : (forms : Forms) (b : Bool) (w : Where) (e : Expression) (t : StaticType) → typed w e ≡ t → Falls w.scope.next w.scope.names → IsTyped forms w e →
+    is_pointing e ≡ true → IsValue b w.scope.names t → IsKeepable b w e
+value_keepable forms b w e t same falls fine h (value_simple _ a) = simple_keepable b w e (subst IsSimple (sym same) a)
+value_keepable forms false w e _ same falls fine h (value_pointer k sp args i q r) = absurd (no_way_back q)
+value_keepable forms true w e _ same falls fine h (value_pointer k sp args i q r) =
     inr (
-      subst IsPointer (sym same) (a_pointer_type k sp args i (names_among w.scope.names sp i r)),
-      points_by_form w e falls (subst (λ t. AreThere w.scope.names (space_in t) (reaches_of t)) (sym same) (among_there w.scope.next w.scope.names sp i falls r)) h,
+      subst IsPointer (sym same) (a_pointer_type k sp args i (goals_aims w.scope.names sp i r)),
+      points_by_form forms w e falls
+          (subst (λ t. AreNames (reaches_of t) → AreThere w.scope.names (space_in t) (reaches_of t)) (sym same)
+          (λ n. among_there w.scope.next w.scope.names sp i falls (goals_among w.scope.names sp i n r))) fine h,
     )
 
 module _ (handing keeping : Bool) (tree : Tree) (task : TaskTree) (sound : IsSound tree) (sound_task : IsSoundTask tree task) (m : Marked)
@@ -82,6 +85,12 @@ module _ (handing keeping : Bool) (tree : Tree) (task : TaskTree) (sound : IsSou
       (scope : IsSoundScope s) (ready : Ready s) → first_in_expression tree task s e ≡ None →
       IsWell handing keeping task (at s line) sound sound_task m local scope ready.names ready.head e
   headed s line e lo k scope ready told = local_well handing keeping task (at s line) sound sound_task m local scope ready.names ready.head e lo k told
+
+  -- a part at the head of one
+  pub parted : (s : Scope) (line : ℕ) (e : Expression) → is_part m e ≡ true → AreKept (parts_of_expression e) →
+      (scope : IsSoundScope s) (ready : Ready s) → first_in_expression tree task s e ≡ None →
+      IsArgument handing keeping task (at s line) sound sound_task m local scope ready.names ready.head e
+  parted s line e lo k scope ready told = local_part handing keeping task (at s line) sound sound_task m local scope ready.names ready.head e lo k told
 
   -- what stands somewhere, by the meaning's type
   pub stands_as : (s : Scope) (e : Expression) (p : Spot) → IsSoundScope s → first_in_expression tree task s e ≡ None →
@@ -136,7 +145,7 @@ module _ (handing keeping : Bool) (tree : Tree) (task : TaskTree) (sound : IsSou
       )
   begins_plainly s line n y true some marked keeps scope ready a =
       let copy = and_parts (is_pointing y) (is_among m.pointers n) (subst (λ b. (not b || (is_pointing y && is_among m.pointers n)) ≡ true) some keeps) in (
-        value_keepable keeping (at s line) y (type_of tree s y) refl scope.numbers copy.0 a.value,
+        value_keepable forms keeping (at s line) y (type_of tree s y) refl scope.numbers a.is copy.0 a.value,
         ⊎_elim (λ h. kept_scalar (type_of tree s y) (a.scalar h)) (λ h. kept_value (type_of tree s y) a.value h (λ p. copy.1)) marked,
       )
 

@@ -18,7 +18,7 @@ use Rattle.regent_tree.specs.declared.outcome.FaultKind.TheVariants.{Turns}
 use Rattle.regent_tree.specs.declared.typing.StaticType.{StaticType}
 use Rattle.regent_tree.specs.Syntax.{Name, Expression}
 use Rattle.regent_tree.specs.Typing.{arithmetic_type, width_of_type}
-use Rattle.regent_tree.specs.Values.{Value, a_number, number_of}
+use Rattle.regent_tree.specs.Values.{Value, a_number, number_of, Region, a_region}
 use Rattle.regent_tree.specs.Running.{State, Here, Run, Result, gives, fails, given, and_then, ◌>>=◌, fault, pay_from}
 use Rattle.regent_tree.specs.Evaluation.{value}
 use Rattle.regent_tree.specs.Execution.{Going, goes_on, returned, going_on, leaving, scoped, turning, counting, bind, looping}
@@ -33,8 +33,8 @@ use Rattle.machine_terms.specs.declared.order.Instance.{Instance}
 use Rattle.code_rules.specs.Pieces.{Piece, op, loop, rounds, past}
 use Rattle.code_rules.specs.Slots.{typed, slot, counter, beside}
 use Rattle.code_rules.specs.Expressions.{expr_code}
-use Rattle.code_laws.specs.Steps.{Setting, machine_of, placed, on_step, Leads, Ends}
-use Rattle.code_laws.specs.Standing.{IsInside, program_of, Stands, machine_value, IsOf, of_integer, blank, nothing, Aside, where_of, Agrees, RegionsStay, SlotsFit, Does}
+use Rattle.code_laws.specs.Steps.{Setting, machine_of, placed, on_step, Leads, Ends, HasMore}
+use Rattle.code_laws.specs.Standing.{IsInside, program_of, Stands, machine_value, IsOf, of_integer, blank, nothing, Aside, where_of, Agrees, RegionsStay, SlotsFit, Does, GoesToPart}
 use Rattle.code_laws.specs.Pointers.{IsPointed}
 use Rattle.code_laws.specs.Simple.{IsInteger, an_integer, IsTruth}
 use Rattle.code_laws.specs.Typed.{CountsDown, IsTyped}
@@ -45,6 +45,7 @@ use Rattle.code_laws.proofs.Operations.{truth_of_type}
 use Rattle.code_laws.proofs.Expressions.{value_runs}
 use Rattle.code_laws.proofs.Names.{Grown}
 use Rattle.code_laws.proofs.States.{stored, bound_more, aside_stored, enters, leaves_round}
+use Rattle.code_laws.proofs.Besides.{none_there}
 
 -- ---- numbers that fit
 
@@ -100,11 +101,11 @@ module _ (x : Setting) (params slots : ℕ) (fit : SlotsFit x slots) (counts : C
   -- what follows a round: its names are left
   then_round : (aside aside2 : Aside) (pc pc2 n : ℕ) (h2 h3 : Here) (i : Instance) (r : Result Going)
       (rest : Run Going) → Does x params slots aside i pc h2 r →
-      ((s : State) (j : Instance) → Agrees x params slots aside h2 s j →
+      ((s : State) (j : Instance) → Agrees x params slots aside h2 s j → HasMore i.frame.own j.frame.own →
       Does x params slots aside2 (placed pc [] j) pc2 h3 (rest (record s { names = take n s.names }))) →
       Does x params slots aside2 i pc2 h3 (and_then (leaving n r) (λ g. going_on rest g))
   then_round aside aside2 pc pc2 n h2 h3 i (gives goes_on s) rest d more =
-      does_before x params slots fit counts aside2 pc2 h3 i _ (rest (record s { names = take n s.names })) d.1 (more s d.0 d.2)
+      does_before x params slots fit counts aside2 pc2 h3 i _ (rest (record s { names = take n s.names })) d.1 (more s d.0 d.2 d.1.own)
   then_round aside aside2 pc pc2 n h2 h3 i (gives (returned v) s) rest d more = (d.0, d.1, d.2, d.3, d.4, d.5, d.6, d.7)
   then_round aside aside2 pc pc2 n h2 h3 i (fails f s) rest d more = d
 
@@ -192,7 +193,8 @@ module _ (x : Setting) (params slots : ℕ) (fit : SlotsFit x slots) (counts : C
   -- one round, and what comes after it
   pub one_round : (m : ℕ) (aside : Aside) (h h2 : Here) (n : Name) (t : StaticType) (item : Value)
       (body : Run Going) (code : Piece) (z : ℤ) (keeps : MachineValue) (head : ℕ → Instr) (s : State) (pc : ℕ) (i : Instance) →
-      IsOf t item → IsInside x s.store t item → IsPointed h.scope.names s.names t item → params ≤ length h.scope.names →
+      IsOf t item → IsInside x s.store t item → IsPointed h.scope.names s.names t item →
+      ((q : Region) → GoesToPart t item q → (keeps ≡ machine_value i.contents (a_region q)) × (q.root < length s.store)) → params ≤ length h.scope.names →
       IsHead h (head (suc (past code (suc pc)))) (past code (suc pc)) pc (machine_value i.contents item) z i →
       Agrees x params slots aside h s i →
       slice_get i.frame.slots (beside (where_of params h) (length h.scope.names)) ≡ Some keeps →
@@ -205,15 +207,15 @@ module _ (x : Setting) (params slots : ℕ) (fit : SlotsFit x slots) (counts : C
       slice_get j3.frame.slots (counter (where_of params h) (length h.scope.names))
       ≡ Some (machine.Number (z +ℤ pos 1)) →
       slice_get j3.frame.slots (beside (where_of params h) (length h.scope.names)) ≡ Some keeps →
-      RegionsStay (length h.scope.names) s.names s3.names →
+      RegionsStay (length h.scope.names) s.names s3.names → HasMore i.frame.own j3.frame.own →
       Does x params slots aside (placed pc [] j3) (suc (past code (suc pc))) h (rest s3)) →
       Does x params slots aside (placed pc [] i) (suc (past code (suc pc))) h
       (and_then (and_then (pay_from m h s) (λ _. scoped (bind item >>= λ _. body)))
       (λ g. going_on rest g))
-  one_round zero aside h h2 n t item body code z keeps head s pc i ty inside pointed low is g el f grown tree more rest q again =
+  one_round zero aside h h2 n t item body code z keeps head s pc i ty inside pointed part low is g el f grown tree more rest q again =
       subst (λ u. Ends x (placed pc [] i) (Broke (Some (record { kind = Turns; line = h.line })) u)) g.text
       (is.faults (g.turns ∙ q))
-  one_round (suc m) aside h h2 n t item body code z keeps head s pc i ty inside pointed low is g el f grown tree more rest q again =
+  one_round (suc m) aside h h2 n t item body code z keeps head s pc i ty inside pointed part low is g el f grown tree more rest q again =
       let w = where_of params h in
       let k = length h.scope.names in
       let c = counter w k in
@@ -227,7 +229,7 @@ module _ (x : Setting) (params slots : ℕ) (fit : SlotsFit x slots) (counts : C
       let i2 = stored v put i1 in
       let j = headed c v put z m i in
       let g2 = bound_more x params slots fit aside h s1 i1 n t true item low
-      (omega (arith, is.puts_in)) ty inside pointed g1 in
+      (omega (arith, is.puts_in)) ty inside pointed (λ q goes. (get_or_from_slice_get i.frame.slots l keeps blank el ∙ (part q goes).0, (part q goes).1)) g1 in
       let up : aside.upto ≤ k = omega (arith, g.inside, g.count) in
       let g3 = aside_stored x params slots fit aside (looping h n t) s2 i2 k 1 (machine.Number (z +ℤ pos 1))
       low up (omega arith) (omega arith) (omega arith) refl g2 in
@@ -236,7 +238,7 @@ module _ (x : Setting) (params slots : ℕ) (fit : SlotsFit x slots) (counts : C
       let e = past code (suc pc) in
       does_before x params slots fit counts aside (suc e) h _ _ _ (is.begins m (g.turns ∙ q))
       (then_round aside2 aside e (suc e) (length s.names) h2 h _ (body s2) rest (more aside2 s2 j g4)
-      (λ s3 j3 g5.
+      (λ s3 j3 g5 more_own.
       let bigger : length j3.frame.slots ≡ slots = g5.slots_are in
       let kept_number = g5.hidden k low (omega arith) in
       let cs : slice_get j3.frame.slots c ≡ Some (machine.Number (z +ℤ pos 1)) =
@@ -253,7 +255,7 @@ module _ (x : Setting) (params slots : ℕ) (fit : SlotsFit x slots) (counts : C
       (leaves_round x params slots fit aside aside2 h h2 (length s.names) s2 s3 j j3 refl (omega (arith, up))
       (omega (arith, g.bound, q)) grown tree g.count (omega (arith, up, g.count)) g3.hidden g3.steady g5) cs ls
       (λ p q l d. get_or-take (length s.names) s3.names p nothing (omega (arith, l, g.count))
-      ∙ g5.steady p q (omega (arith, l)) (get_or-append s.names (item ∷ []) nothing p (omega (arith, l, g.count)) ∙ d)))))
+      ∙ g5.steady p q (omega (arith, l)) (get_or-append s.names (item ∷ []) nothing p (omega (arith, l, g.count)) ∙ d)) more_own)))
 
   -- from the head on
   pub counting_runs : (k : ℕ) (aside : Aside) (h h2 : Here) (n : Name) (t : StaticType) (wd : Width)
@@ -279,7 +281,7 @@ module _ (x : Setting) (params slots : ℕ) (fit : SlotsFit x slots) (counts : C
       let to = suc (past code (suc pc)) in
       let used = three_least (counter w m) (beside w m) (slot w m) slots (fit pc _ f.0) in
       one_round s.turns aside h h2 n t (a_number wd z) body code z (machine.Number b)
-      (instr.NextNumber (counter w m) (beside w m) (slot w m)) s pc i (ty z fz) (number_inside x s.store t wd z (ty z fz)) tt low
+      (instr.NextNumber (counter w m) (beside w m) (slot w m)) s pc i (ty z fz) (number_inside x s.store t wd z (ty z fz)) tt (λ q goes. absurd (none_there q goes.regions)) low
       (record {
         back = lt-ltb (past code (suc pc)) to (omega arith);
         counts_in = used.0;
@@ -290,7 +292,7 @@ module _ (x : Setting) (params slots : ℕ) (fit : SlotsFit x slots) (counts : C
             (omega (arith, used.2, g.slots_are)) ec el f.0;
       }) g el f grown tree more
       (counting h k wd (z +ℤ pos 1) body) refl
-      (λ s3 j3 g3 e3 f3 stay. counting_runs k aside h h2 n t wd body code (z +ℤ pos 1) b s3 pc j3 ty (next_fits wd z b fz fb c.0) fb low c.1 g3
+      (λ s3 j3 g3 e3 f3 stay own. counting_runs k aside h h2 n t wd body code (z +ℤ pos 1) b s3 pc j3 ty (next_fits wd z b fz fb c.0) fb low c.1 g3
       e3 f3 f grown tree more)
 
   pub integer_kept : (c : Contents) (t : StaticType) (v : Value) → IsInteger t → IsOf t v →

@@ -36,7 +36,7 @@ use Rattle.memory_laws.proofs.Making.{made_holds, made_is_numbered, made_is_own}
 use Rattle.region_tree.specs.declared.tree.RootId.{RootId}
 use Rattle.machine_terms.specs.declared.order.Root.{Root}
 use Rattle.value_laws.specs.Shapes.{KeepsNumbers}
-use Rattle.code_laws.specs.Standing.{Agrees, AreOf, Aside, IsInside, is_own, IsOf, LiesIn, Stands, machine_value, nothing, of_index, of_integer, of_partition, of_pointer, of_region, of_space, of_truth}
+use Rattle.code_laws.specs.Standing.{Agrees, AreOf, Aside, IsInside, is_own, IsOf, LiesIn, Stands, machine_value, nothing, of_index, of_integer, of_partition, of_pointer, of_region, of_space, of_truth, where_of, blank}
 use Rattle.code_laws.specs.Steps.{Setting, Taking, machine_of, placed, on_step, Leads}
 use Rattle.code_laws.specs.Taking.{IsFresh, IsHadBy, is_asked}
 use Rattle.regent_tree.specs.StaticTypes.{Reach}
@@ -51,6 +51,8 @@ use Rattle.regent_tree.specs.StaticTypes.{spaces_of}
 use Rattle.code_rules.specs.Programs.{space_code}
 use Rattle.code_laws.proofs.Shapes.{new_shaped, shaped_more}
 use Rattle.code_laws.proofs.Runs.{leads_by}
+use Rattle.code_rules.specs.Slots.{beside}
+use Rattle.code_laws.proofs.Besides.{beside_roots}
 
 -- ---- what was there stays
 
@@ -165,6 +167,12 @@ module _ (x : Setting) (params slots : ℕ) (aside : Aside) where
         inside_store = all_more x s.store image h.scope.names s.names g.typed g.inside_store;
         pointed = g.pointed;
         steady = g.steady;
+        besides = beside_roots (λ p. get_or i.frame.slots (beside (where_of params h) p) blank) i.contents j.contents params (length s.store)
+            (length (s.store ++ image ∷ [])) h.scope.names s.names g.typed
+            (λ q low. (
+              ap (λ n. machine.Region (region_with n q.points)) (number_old i.contents image g.memory.stands.numbered q.root (omega (arith, low, g.memory.stands.count))),
+              omega (arith, low, length-append s.store (image ∷ [])),
+            )) g.besides;
         count = g.count;
         inside = g.inside;
         slots_are = g.slots_are;

@@ -42,6 +42,7 @@ use Rattle.code_laws.proofs.Runs.{leads_by}
 use Rattle.code_laws.proofs.Values.{named}
 use Rattle.code_laws.proofs.Wider.{into_simple}
 use Rattle.code_laws.proofs.Writes.{ConvertedAt, converted_at}
+use Rattle.code_laws.proofs.Besides.{goes_alike}
 
 -- ---- positions
 
@@ -155,7 +156,7 @@ module _ (x : Setting) (params slots : ℕ) (fit : SlotsFit x slots) (counts : C
         stores x params slots fit slot_at pc h.line (machine.Number (kept_target tg)) [] i g.slots_are f,
         changed x params slots fit aside h s i n new b room
             (subst (λ u. IsOf u new) (sym e) (of_pointer k sp args rs tg (regions_of old) o))
-            (subst (λ u. IsInside x s.store u new) (sym e) tt) alike.0 alike.1 g,
+            (subst (λ u. IsInside x s.store u new) (sym e) tt) alike.0 alike.1 (λ t q goes. goes_alike t old tg q goes) g,
       )
 
   pub assigns : (aside : Aside) (h : Here) (n : Name) (from : StaticType) (v : Value) (s : State) (pc : ℕ) (i : Instance) →

@@ -34,7 +34,7 @@ tasks zero t e = subst (IsTypedTaskOf all_forms totals_program) (same_Some _ t e
   typed = (
     (refl, a_space_type _, ((refl, tt), an_integer _), record { there = omega arith; few = omega arith }, tt),
     (
-      (
+      inl (
         inr (a_region_type _ _ _ _, record { number = 1; numbered = refl; place = refl; typed = a_region_type _ _ _ _; space = refl; is = refl }),
         (refl, tt),
         (
@@ -51,7 +51,7 @@ tasks zero t e = subst (IsTypedTaskOf all_forms totals_program) (same_Some _ t e
       (
         inl (inl (simple_integer _), omega (arith, ints)),
         (
-          (
+          inl (
             inr (a_region_type _ _ _ _, record { number = 1; numbered = refl; place = refl; typed = a_region_type _ _ _ _; space = refl; is = refl }),
             (refl, tt),
             ((an_integer _, an_integer _, (refl, inl (record { named = refl; numbers = (omega arith, (omega arith, (omega arith, (omega arith, tt)))); pointer = a_pointer_type _ _ _ _ tt; certain = refl; field = omega arith; keeps = keeps_plain _ _ _ fits_32 }, (tt, tt))), refl), tt),

@@ -25,7 +25,7 @@ runs z fits = record {
         (assigned_plain _ _ (into_plain _ _ (fills_index _ _ (number_integer _))), (refl, tt), refl),
         -- the loop over the region
         (
-          (
+          inl (
             inr (a_region_type _ _ _ _, record { number = 1; numbered = refl; place = refl; typed = a_region_type _ _ _ _; space = refl; is = refl }),
             (refl, tt),
             (
@@ -56,7 +56,7 @@ runs z fits = record {
           ),
           -- the loop through the field of indices
           (
-            (
+            inl (
               inr (a_region_type _ _ _ _, record { number = 1; numbered = refl; place = refl; typed = a_region_type _ _ _ _; space = refl; is = refl }),
               (refl, tt),
               (

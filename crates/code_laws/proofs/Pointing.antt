@@ -16,8 +16,9 @@ use Rattle.regent_tree.specs.Values.{Partition, Region, Value, a_number, a_parti
 use Rattle.regent_tree.specs.declared.facts.Term.TheVariants as term
 use Rattle.regent_tree.specs.declared.typing.Bound.{Bound}
 use Rattle.regent_tree.specs.declared.typing.StaticType.{StaticType}
-use Rattle.code_laws.specs.Pointers.{ArePointed, AreReached, IsCut, IsCutAs, IsOfName, IsPointed}
-use Rattle.code_laws.specs.Simple.{IsRegion, IsSimple, a_region_type, simple_index, simple_integer, simple_space, simple_truth}
+use Rattle.regent_tree.specs.declared.typing.StaticType.TheVariants.{Unknown as unknown_type}
+use Rattle.code_laws.specs.Pointers.{ArePointed, AreReached, IsCut, IsCutAs, IsOfName, IsOfPart, IsPointed}
+use Rattle.code_laws.specs.Simple.{IsPartition, IsRegion, IsSimple, a_region_type, simple_index, simple_integer, simple_space, simple_truth}
 use Rattle.code_laws.specs.Standing.{AreOf, IsOf, RegionsStay, nothing, of_index, of_integer, of_region, of_space, of_truth}
 use Rattle.code_laws.specs.Typed.{IsOwnRegion}
 use Rattle.code_rules.specs.Slots.{Where}
@@ -74,7 +75,23 @@ reached_stays bs names after sp (Some (term.Name i) ∷ rs) (q ∷ qs) stay a = 
   },
   reached_stays bs names after sp rs qs stay a.1,
 )
-reached_stays bs names after sp (Some (term.Child p c) ∷ rs) (q ∷ qs) stay a = reached_stays bs names after sp rs qs stay a
+reached_stays bs names after sp (Some (term.Child p c) ∷ rs) (q ∷ qs) stay a = (
+  record {
+    numbered = a.0.numbered;
+    partition = a.0.partition;
+    parent = a.0.parent;
+    is = record {
+      numbered = a.0.is.numbered;
+      region = a.0.is.region;
+      space = a.0.is.space;
+      below = a.0.is.below;
+      value = stay (bound_as bs (parent_of (bound_as bs p).static_type)).place a.0.parent a.0.is.below a.0.is.value;
+    };
+    root = a.0.root;
+    within = a.0.within;
+  },
+  reached_stays bs names after sp rs qs stay a.1,
+)
 reached_stays bs names after sp (None ∷ rs) (q ∷ qs) stay a = reached_stays bs names after sp rs qs stay a
 reached_stays bs names after sp _ _ stay a = absurd a
 
@@ -182,36 +199,55 @@ pointed_set (b ∷ bs) names k v room none alike a = (
 
 -- ---- by numbers
 
--- a binding that is found by its number has one below those behind it
-found_below : (next : ℕ) (bs : List Bound) (i : ℕ) → Falls next bs → IsRegion (bound_as bs i).static_type → (bound_as bs i).number < next
-found_below next [] i f r = absurd (nowhere r)
+-- a binding that is found by its number has one below those behind it, where something holds of its type
+bound_below : (Kind : StaticType → Type 0) → (Kind unknown_type → ⊥) → (next : ℕ) (bs : List Bound) (i : ℕ) → Falls next bs →
+    Kind (bound_as bs i).static_type → (bound_as bs i).number < next
+bound_below Kind none next [] i f r = absurd (none r)
+bound_below Kind none next (b ∷ bs) i f r = chosen (b.number == i) (λ r. omega (arith, f.0, bound_below Kind none b.number bs i f.1 r)) r
   where
-    nowhere : IsRegion (bound_as [] i).static_type → ⊥
-    nowhere r = elim r [ ]
-found_below next (b ∷ bs) i f r = chosen (b.number == i) (λ r. omega (arith, f.0, found_below b.number bs i f.1 r)) r
-  where
-    chosen : (c : Bool) → (IsRegion (bound_as bs i).static_type → (bound_as bs i).number < next) →
-        IsRegion (cond c b (bound_as bs i)).static_type → (cond c b (bound_as bs i)).number < next
+    chosen : (c : Bool) → (Kind (bound_as bs i).static_type → (bound_as bs i).number < next) →
+        Kind (cond c b (bound_as bs i)).static_type → (cond c b (bound_as bs i)).number < next
     chosen true more r = f.0
     chosen false more r = more r
+
+found_below : (next : ℕ) (bs : List Bound) (i : ℕ) → Falls next bs → IsRegion (bound_as bs i).static_type → (bound_as bs i).number < next
+found_below next bs i f r = bound_below IsRegion (λ r. elim r [ ]) next bs i f r
+
+cut_below : (next : ℕ) (bs : List Bound) (i : ℕ) → Falls next bs → IsPartition (bound_as bs i).static_type → (bound_as bs i).number < next
+cut_below next bs i f r = bound_below IsPartition (λ r. elim r [ ]) next bs i f r
+
+-- the region of a number, where another name comes
+name_wider : (b : Bound) (bs : List Bound) (names : List Value) (sp i : ℕ) (q : Region) → Falls b.number bs →
+    IsOfName (bound_as bs i) (length bs) names sp i q → IsOfName (bound_as (b ∷ bs) i) (length (b ∷ bs)) names sp i q
+name_wider b bs names sp i q f a = wider (b.number == i) (ne_eqb b.number i (λ e. omega (arith, e, a.numbered, found_below b.number bs i f a.region)))
+  where
+    wider : (c : Bool) → c ≡ false → IsOfName (cond c b (bound_as bs i)) (length (b ∷ bs)) names sp i q
+    wider c e = subst (λ c. IsOfName (cond c b (bound_as bs i)) (length (b ∷ bs)) names sp i q) (sym e) (record {
+      numbered = a.numbered;
+      region = a.region;
+      space = a.space;
+      below = omega (arith, a.below);
+      value = a.value;
+    })
 
 reached_wider : (b : Bound) (bs : List Bound) (names : List Value) (sp : ℕ) (rs : List Reach) (qs : List Region) → Falls b.number bs →
     AreReached bs names sp rs qs → AreReached (b ∷ bs) names sp rs qs
 reached_wider b bs names sp [] [] f a = tt
-reached_wider b bs names sp (Some (term.Name i) ∷ rs) (q ∷ qs) f a = (
-  wider (b.number == i) (ne_eqb b.number i (λ e. omega (arith, e, a.0.numbered, found_below b.number bs i f a.0.region))),
+reached_wider b bs names sp (Some (term.Name i) ∷ rs) (q ∷ qs) f a = (name_wider b bs names sp i q f a.0, reached_wider b bs names sp rs qs f a.1)
+reached_wider b bs names sp (Some (term.Child p c) ∷ rs) (q ∷ qs) f a = (
+  wider (b.number == p) (ne_eqb b.number p (λ e. omega (arith, e, a.0.numbered, cut_below b.number bs p f a.0.partition))),
   reached_wider b bs names sp rs qs f a.1,
 )
   where
-    wider : (c : Bool) → c ≡ false → IsOfName (cond c b (bound_as bs i)) (length (b ∷ bs)) names sp i q
-    wider c e = subst (λ c. IsOfName (cond c b (bound_as bs i)) (length (b ∷ bs)) names sp i q) (sym e) (record {
+    wider : (d : Bool) → d ≡ false → IsOfPart (b ∷ bs) (cond d b (bound_as bs p)) (length (b ∷ bs)) names sp p q
+    wider d e = subst (λ d. IsOfPart (b ∷ bs) (cond d b (bound_as bs p)) (length (b ∷ bs)) names sp p q) (sym e) (record {
       numbered = a.0.numbered;
-      region = a.0.region;
-      space = a.0.space;
-      below = omega (arith, a.0.below);
-      value = a.0.value;
+      partition = a.0.partition;
+      parent = a.0.parent;
+      is = name_wider b bs names sp (parent_of (bound_as bs p).static_type) a.0.parent f a.0.is;
+      root = a.0.root;
+      within = a.0.within;
     })
-reached_wider b bs names sp (Some (term.Child p c) ∷ rs) (q ∷ qs) f a = reached_wider b bs names sp rs qs f a
 reached_wider b bs names sp (None ∷ rs) (q ∷ qs) f a = reached_wider b bs names sp rs qs f a
 reached_wider b bs names sp _ _ f a = absurd a
 

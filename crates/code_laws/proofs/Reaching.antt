@@ -43,11 +43,12 @@ use Rattle.memory_laws.specs.Touches.{IsCovered}
 use Rattle.memory_laws.proofs.Covering.{covered_stays}
 use Rattle.memory_laws.proofs.Shapes.{length_of, shapes_at}
 use Rattle.code_laws.proofs.Shapes.{shaped_stays}
-use Rattle.code_laws.specs.Standing.{Agrees, is_own, AreOf, Aside, IsFramed, IsInside, IsOf, LiesIn, nothing, of_index, of_integer, of_partition, of_pointer, of_region, of_space, of_truth}
+use Rattle.code_laws.specs.Standing.{Agrees, is_own, AreOf, Aside, IsFramed, IsInside, IsOf, LiesIn, nothing, of_index, of_integer, of_partition, of_pointer, of_region, of_space, of_truth, AreBeside, blank, where_of}
 use Rattle.code_laws.specs.Simple.{IsRegion, a_region_type, term_in}
 use Rattle.code_laws.specs.Steps.{Setting, Taking}
 use Rattle.code_laws.specs.Taking.{AreParts, IsHad, IsHadBy, IsSubregion, MayDo, allows, given_region, is_asked, is_need, is_part, known_of_pairs, needs_taken, pairs_taken}
 use Rattle.code_laws.proofs.Touching.{parted}
+use Rattle.code_rules.specs.Slots.{beside}
 
 -- ---- kinds of fields
 
@@ -116,6 +117,8 @@ rewritten x params slots aside h s i ps ts store same kept g holds = record {
   inside_store = all_inside x s.store store h.scope.names s.names same g.typed g.inside_store;
   pointed = g.pointed;
   steady = g.steady;
+  besides = subst (λ n. AreBeside (λ p. get_or i.frame.slots (beside (where_of params h) p) blank) i.contents params n h.scope.names s.names)
+      (sym (length-map s.store shape_of) ∙ ap length (sym same) ∙ length-map store shape_of) g.besides;
   count = g.count;
   inside = g.inside;
   slots_are = g.slots_are;

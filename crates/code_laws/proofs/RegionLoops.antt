@@ -1,6 +1,6 @@
 -- A loop over a region: its variable is a pointer to each point, in order.
-use Rattle.std.proofs.Common.{◌≡◌, ℕ, suc, ◌+◌, ◌^◌, ◌<◌, ◌≤◌, List, pos, ◌+ℤ◌, [], ◌∷◌, ◌++◌, true, false, Some, refl, sym, ap, ◌∙◌, arith, append_assoc, length-append}
-use Rattle.std.specs.Prelude.{length, map, slice_get}
+use Rattle.std.proofs.Common.{◌≡◌, ℕ, suc, ◌+◌, ◌^◌, ◌<◌, ◌≤◌, List, pos, ◌+ℤ◌, [], ◌∷◌, ◌++◌, true, false, Some, refl, sym, ap, ◌∙◌, arith, append_assoc, length-append, subst}
+use Rattle.std.specs.Prelude.{length, map, slice_get, get_or}
 use Rattle.std.proofs.lemmas.Bool.{eq-eqb, lt-ltb, ne_eqb}
 use Rattle.std.proofs.lemmas.Int.{ints}
 use Rattle.std.proofs.lemmas.List.{get_or-set_other, get_or-set_same}
@@ -27,7 +27,7 @@ use Rattle.code_rules.specs.Pieces.{Piece, op, past, rounds}
 use Rattle.code_rules.specs.Slots.{beside, counter, slot}
 use Rattle.memory_laws.specs.Places.{number_at}
 use Rattle.code_laws.specs.Pointers.{AreReached}
-use Rattle.code_laws.specs.Standing.{Agrees, Aside, Does, SlotsFit, Stands, blank, of_pointer, program_of, where_of}
+use Rattle.code_laws.specs.Standing.{Agrees, Aside, Does, SlotsFit, Stands, blank, of_pointer, program_of, where_of, machine_value}
 use Rattle.code_laws.specs.Steps.{Setting, machine_of, placed, on_step, Leads}
 use Rattle.code_laws.specs.Typed.{CountsDown}
 use Rattle.code_laws.proofs.Good.{valued}
@@ -38,10 +38,15 @@ use Rattle.code_laws.proofs.Rows.{does_before, three_least}
 use Rattle.code_laws.proofs.Runs.{ends_by, leads_by, leads_twice}
 use Rattle.code_laws.proofs.States.{aside_stored, stored, stores}
 use Rattle.code_laws.proofs.Values.{past_later}
+use Rattle.code_laws.proofs.Staying.{numbers_stay, roots_stay}
 
 -- the pointers to points of a region
 abbrev pub pointers_to : Region → List ℕ → List Value
 pointers_to q ns = map (λ n. a_pointer (point_target n 1) (q ∷ [])) ns
+
+-- lists of one region
+pub only_one : (q d : Region) → q ∷ [] ≡ d ∷ [] → q ≡ d
+only_one q d e = ap (λ qs. get_or qs 0 q) e
 
 module _ (x : Setting) (params slots : ℕ) (fit : SlotsFit x slots) (counts : CountsDown) where
   -- the head, with a region and a counter in their slots
@@ -87,7 +92,7 @@ module _ (x : Setting) (params slots : ℕ) (fit : SlotsFit x slots) (counts : C
   -- from a point on
   over_points : (left done : List ℕ) (q : Region) (aside : Aside) (h h2 : Here) (name : Name) (kind : Kind) (sp : ℕ) (args : List Reach)
       (r : Reach) (body : Run Going) (code : Piece)
-      (s : State) (pc : ℕ) (i : Instance) (ri : ℕ) → q.points ≡ done ++ left → ((n : ℕ) → has q.points n ≡ true → n < 2 ^ 32) →
+      (s : State) (pc : ℕ) (i : Instance) (ri : ℕ) → number_at i.contents q.root ≡ ri → q.root < length s.store → q.points ≡ done ++ left → ((n : ℕ) → has q.points n ≡ true → n < 2 ^ 32) →
       ((n : ℕ) → has left n ≡ true → has q.points n ≡ true) → params ≤ length h.scope.names →
       AreReached h.scope.names s.names sp (r ∷ []) (q ∷ []) →
       Agrees x params slots aside h s i →
@@ -100,7 +105,7 @@ module _ (x : Setting) (params slots : ℕ) (fit : SlotsFit x slots) (counts : C
       Agrees x params slots aside2 (looping h name (pointer_type kind sp args (r ∷ []))) s1 j →
       Does x params slots aside2 (placed (suc pc) [] j) (past code (suc pc)) h2 (body s1)) →
       Does x params slots aside (placed pc [] i) (suc (past code (suc pc))) h (rounds_over h (pointers_to q left) body s)
-  over_points [] done q aside h h2 name kind sp args r body code s pc i ri e small inner low reach g ec es f grown same more =
+  over_points [] done q aside h h2 name kind sp args r body code s pc i ri num there e small inner low reach g ec es f grown same more =
       let w = where_of params h in
       let m = length h.scope.names in
       let later : pc < suc (past code (suc pc)) = omega (arith, past_later code (suc pc)) in
@@ -110,7 +115,7 @@ module _ (x : Setting) (params slots : ℕ) (fit : SlotsFit x slots) (counts : C
             (ec ∙ ap (λ z. Some (machine.Number (pos z))) all) f.0,
         g,
       )
-  over_points (n ∷ left) done q aside h h2 name kind sp args r body code s pc i ri e small inner low reach g ec es f grown same more =
+  over_points (n ∷ left) done q aside h h2 name kind sp args r body code s pc i ri num there e small inner low reach g ec es f grown same more =
       let w = where_of params h in
       let m = length h.scope.names in
       let c = counter w m in
@@ -131,7 +136,9 @@ module _ (x : Setting) (params slots : ℕ) (fit : SlotsFit x slots) (counts : C
       let rv = region_with ri q.points in
       one_round x params slots fit counts s.turns aside h h2 name t item body code (pos k) (machine.Region rv)
       (instr.NextPoint l c v true) s pc i (of_pointer kind sp args (r ∷ []) (point_target n 1) (q ∷ []) (near, omega arith)) tt
-      reach low
+      reach
+      (λ d goes. subst (λ (c : Region). (machine.Region rv ≡ machine_value i.contents (a_region c)) × (c.root < length s.store)) (only_one q d goes.regions)
+      (ap (λ k. machine.Region (region_with k q.points)) (sym num), there)) low
       (record {
         back = lt-ltb (past code (suc pc)) to (omega arith);
         counts_in = used.1;
@@ -148,14 +155,15 @@ module _ (x : Setting) (params slots : ℕ) (fit : SlotsFit x slots) (counts : C
             ∙ ap (λ z. next [] (put c (machine.Number (pos k +ℤ pos 1)) (put v (machine.Number z) (with_turns more m0)))) kept_is));
       }) g es f grown same more
       (rounds_over h (pointers_to q left) body) refl
-      (λ s3 j3 g3 e3 f3 stay. over_points left (done ++ n ∷ []) q aside h h2 name kind sp args r body code s3 pc j3 ri
+      (λ s3 j3 g3 e3 f3 stay own. over_points left (done ++ n ∷ []) q aside h h2 name kind sp args r body code s3 pc j3 ri
+      (numbers_stay x params slots aside aside h h s s3 i j3 g g3 own q.root there ∙ num) (roots_stay x params slots aside aside h h s s3 i j3 g g3 own q.root there)
       (e ∙ sym (append_assoc done (n ∷ []) left)) small (λ p d. inner p (has_tail p n left d)) low
       (reached_stays h.scope.names s.names s3.names sp (r ∷ []) (q ∷ []) stay reach) g3
       (e3 ∙ ap (λ z. Some (machine.Number z)) next_is) f3 f grown same more)
 
   -- a loop over the region that stands on the stack
   pub regions_run : (aside : Aside) (h h2 : Here) (name : Name) (kind : Kind) (sp : ℕ) (args : List Reach) (r : Reach) (q : Region)
-      (body : Run Going) (code : Piece) (s : State) (pc : ℕ) (i : Instance) → ((n : ℕ) → has q.points n ≡ true → n < 2 ^ 32) →
+      (body : Run Going) (code : Piece) (s : State) (pc : ℕ) (i : Instance) → ((n : ℕ) → has q.points n ≡ true → n < 2 ^ 32) → q.root < length s.store →
       params ≤ length h.scope.names →
       AreReached h.scope.names s.names sp (r ∷ []) (q ∷ []) →
       Agrees x params slots aside h s i →
@@ -170,7 +178,7 @@ module _ (x : Setting) (params slots : ℕ) (fit : SlotsFit x slots) (counts : C
       Does x params slots aside2 (placed (suc (suc (suc (suc pc)))) [] j) (past code (suc (suc (suc (suc pc))))) h2 (body s1)) →
       Does x params slots aside (valued pc [] (a_region q) i) (suc (past code (suc (suc (suc (suc pc)))))) h
       (rounds_over h (pointers_to q q.points) body s)
-  regions_run aside h h2 name kind sp args r q body code s pc i small low reach g f1 f2 f3 f4 grown same more =
+  regions_run aside h h2 name kind sp args r q body code s pc i small there low reach g f1 f2 f3 f4 grown same more =
       let w = where_of params h in
       let k = length h.scope.names in
       let c = counter w k in
@@ -192,5 +200,5 @@ module _ (x : Setting) (params slots : ℕ) (fit : SlotsFit x slots) (counts : C
       (leads_twice x (stores x params slots fit l pc h.line rv [] i g.slots_are f1)
       (leads_twice x (leads_by x (placed (suc pc) [] j3) (placed (suc (suc pc)) (machine.Number (pos 0) ∷ []) j3) (instr.Num (pos 0)) h.line f2 refl)
       (stores x params slots fit c (suc (suc pc)) h.line (machine.Number (pos 0)) [] j3 g3.slots_are f3)))
-      (over_points q.points [] q aside h h2 name kind sp args r body code s (suc (suc (suc pc))) j4 (number_at i.contents q.root) refl small
+      (over_points q.points [] q aside h h2 name kind sp args r body code s (suc (suc (suc pc))) j4 (number_at i.contents q.root) refl there refl small
       (λ n e. e) low reach g4 cs ls f4 grown same more)

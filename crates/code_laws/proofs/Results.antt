@@ -25,6 +25,7 @@ use Rattle.code_laws.specs.Steps.{Setting, machine_of, placed, on_step, Leads}
 use Rattle.code_laws.proofs.Runs.{leads_by, leads_twice}
 use Rattle.code_laws.proofs.States.{ready_set, ready_value, stored, stores}
 use Rattle.code_laws.proofs.Values.{load_value, not_true}
+use Rattle.code_laws.proofs.Besides.{beside_slots}
 
 settled_none : (n : ℕ) (z : ℤ) (xs : List MachineValue) → AreReady xs → map (settled n z) xs ≡ xs
 settled_none n z [] r = refl
@@ -65,6 +66,9 @@ module _ (x : Setting) (params slots : ℕ) (fit : SlotsFit x slots) (aside : As
         inside_store = g.inside_store;
         pointed = g.pointed;
         steady = g.steady;
+        besides = beside_slots (λ p. get_or xs (beside w p) blank) (λ p. get_or (slice_set xs k v) (beside w p) blank) i.contents params
+            (length s.store) h.scope.names s.names g.typed
+            (λ p l e. get_or-set_other xs k (beside w p) v blank (λ q. omega (arith, q, l, e, low))) g.besides;
         count = g.count;
         inside = g.inside;
         slots_are = length-set xs k v ∙ g.slots_are;

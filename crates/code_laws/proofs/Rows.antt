@@ -23,21 +23,22 @@ use Rattle.machine_terms.specs.declared.order.Resumed.TheVariants.{IsOver}
 use Rattle.code_rules.specs.Pieces.{empty, op, past}
 use Rattle.code_rules.specs.Programs.{space_code}
 use Rattle.regent_tree.specs.StaticTypes.{spaces_of}
-use Rattle.code_rules.specs.Slots.{slot_named}
+use Rattle.code_rules.specs.Slots.{slot_named, beside}
 use Rattle.code_rules.specs.Expressions.{expr_code}
 use Rattle.code_rules.specs.Initializers.{beside_code, plain_code}
 use Rattle.code_rules.specs.Used.{greatest, above_all}
 use Rattle.code_laws.specs.Steps.{Setting, machine_of, placed, on_step, Leads, Ends}
-use Rattle.code_laws.specs.Standing.{Answering, program_of, Stands, machine_value, IsInside, IsOf, AreOf, of_index, of_integer, of_space, of_truth, nothing, Aside, where_of, Agrees, SlotsFit, Does}
+use Rattle.code_laws.specs.Standing.{Answering, program_of, Stands, machine_value, IsInside, IsOf, AreOf, of_index, of_integer, of_space, of_truth, nothing, Aside, where_of, Agrees, SlotsFit, Does, AreBeside, blank}
 use Rattle.code_laws.specs.Pointers.{ArePointed}
 use Rattle.code_laws.specs.Simple.{IsScalar, IsSimple, scalar_integer, scalar_truth, simple_index, simple_integer, simple_space, simple_truth}
 use Rattle.code_laws.specs.Typed.{CountsDown}
 use Rattle.code_laws.proofs.Runs.{Said, leads_twice, leads_end, leads_by, ends_by}
-use Rattle.code_laws.proofs.Pointing.{simple_alike, simple_no_region}
+use Rattle.code_laws.proofs.Pointing.{simple_alike, simple_no_region, simple_plain}
 use Rattle.code_laws.proofs.Values.{jump_later, named, simple_inside}
 use Rattle.code_laws.proofs.Good.{valued}
 use Rattle.code_laws.proofs.Names.{Grown, block_grown}
 use Rattle.code_laws.proofs.States.{stored, stores, changed, cut}
+use Rattle.code_laws.proofs.Besides.{plain_alike}
 
 -- ---- plain start values
 
@@ -116,6 +117,7 @@ same_scope x params slots aside h h2 s i e g = record {
   inside_store = subst (λ bs. AreOf (IsInside x s.store) bs s.names) e.0 g.inside_store;
   pointed = subst (λ bs. ArePointed bs s.names) e.0 g.pointed;
   steady = g.steady;
+  besides = subst (λ bs. AreBeside (λ p. get_or i.frame.slots (beside (where_of params h) p) blank) i.contents params (length s.store) bs s.names) e.0 g.besides;
   count = g.count ∙ ap length e.0;
   inside = g.inside;
   slots_are = g.slots_are;
@@ -231,6 +233,7 @@ module _ (x : Setting) (params slots : ℕ) (fit : SlotsFit x slots) (counts : C
     inside_store = g.inside_store;
     pointed = g.pointed;
     steady = g.steady;
+    besides = g.besides;
     count = g.count;
     inside = g.inside;
     slots_are = g.slots_are;
@@ -256,6 +259,7 @@ module _ (x : Setting) (params slots : ℕ) (fit : SlotsFit x slots) (counts : C
     inside_store = g.inside_store;
     pointed = g.pointed;
     steady = g.steady;
+    besides = g.besides;
     count = g.count;
     inside = g.inside;
     slots_are = g.slots_are;
@@ -315,7 +319,8 @@ module _ (x : Setting) (params slots : ℕ) (fit : SlotsFit x slots) (counts : C
         stored k (machine_value i.contents v) i,
         stores x params slots fit k pc h.line (machine_value i.contents v) [] i g.slots_are f,
         changed x params slots fit aside h s i n v b room ty (simple_inside x s.store _ v p)
-            (simple_no_region _ old p (named IsOf h.scope.names s.names n g.typed b).holding) (simple_alike _ old v p ty) g,
+            (simple_no_region _ old p (named IsOf h.scope.names s.names n g.typed b).holding) (simple_alike _ old v p ty)
+            (λ t q goes. plain_alike t old v q (simple_plain _ v p ty) goes) g,
       )
 
   -- ---- asserts and returns

@@ -35,6 +35,7 @@ use Rattle.code_laws.proofs.Names.{Grown}
 use Rattle.code_laws.proofs.Rows.{does_before, three_least}
 use Rattle.code_laws.proofs.Runs.{ends_by, leads_by, leads_twice}
 use Rattle.code_laws.proofs.Values.{past_later}
+use Rattle.code_laws.proofs.Besides.{none_there}
 
 module _ (x : Setting) (params slots : ℕ) (fit : SlotsFit x slots) (counts : CountsDown) where
   -- the head, with an index space and a counter in their slots
@@ -107,7 +108,7 @@ module _ (x : Setting) (params slots : ℕ) (fit : SlotsFit x slots) (counts : C
       let room : v < length i.frame.slots = omega (arith, used.2, g.slots_are) in
       let m0 = machine_of (placed pc [] i) in
       one_round x params slots fit counts s.turns aside h h2 name (index_type kind) (an_index (pos k)) body code (pos k) (machine.Space n)
-      (instr.NextPoint l c v false) s pc i (of_index kind (pos k) fits) tt tt low
+      (instr.NextPoint l c v false) s pc i (of_index kind (pos k) fits) tt tt (λ q goes. absurd (none_there q goes.regions)) low
       (record {
         back = lt-ltb (past code (suc pc)) to (omega arith);
         counts_in = used.1;
@@ -123,7 +124,7 @@ module _ (x : Setting) (params slots : ℕ) (fit : SlotsFit x slots) (counts : C
             (lt-ltb v (length i.frame.slots) room)));
       }) g es f grown same more
       (rounds_over h (map (λ i. an_index (pos i)) (counted_from (suc k) left)) body) refl
-      (λ s3 j3 g3 e3 f3 stay. over_space left (suc k) n aside h h2 name kind body code s3 pc j3 (omega (arith, e)) small low g3
+      (λ s3 j3 g3 e3 f3 stay own. over_space left (suc k) n aside h h2 name kind body code s3 pc j3 (omega (arith, e)) small low g3
       (e3 ∙ ap (λ z. Some (machine.Number z)) next_is) f3 f grown same more)
 
   -- a loop over a space that stands on the stack

@@ -1,9 +1,10 @@
 -- The code of a statement does what the statement means.
 use Rattle.code_laws.proofs.Behind.{folds_behind, sets_behind}
 use Rattle.code_laws.proofs.Moving.{assigned_runs, assigns}
-use Rattle.code_laws.proofs.PointerForms.{begins_run, declares_run, itself_run, points_run}
+use Rattle.code_laws.proofs.Domains.{domains_run}
+use Rattle.code_laws.proofs.PointerForms.{begins_run, declares_run, itself_run}
 use Rattle.code_laws.proofs.Pointing.{region_pointed}
-use Rattle.code_laws.proofs.Wider.{any_field, assigned, beginning, begun, counting, keepable, loops_over, zeroed}
+use Rattle.code_laws.proofs.Wider.{any_field, assigned, beginning, begun, counting, keepable, zeroed}
 use Rattle.code_laws.proofs.States.{ready_value}
 use Rattle.code_laws.proofs.Variables.{GoodInside, binds, fill_runs, region_runs}
 use Rattle.code_laws.proofs.Elements.{folds_element, sets_element}
@@ -56,6 +57,7 @@ use Rattle.regent_tree.specs.StaticTypes.{task_named}
 use Rattle.code_laws.proofs.PrintRuns.{values_run, prints}
 use Rattle.code_laws.proofs.Names.{form_grown, block_grown, arms_names, else_names}
 use Rattle.code_laws.proofs.States.{stored, stores, aside_stored}
+use Rattle.code_laws.proofs.Besides.{no_part_goes}
 
 module _ (x : Setting) (params slots : ℕ) (fit : SlotsFit x slots) (counts : CountsDown) where
   -- ---- statements
@@ -207,7 +209,8 @@ module _ (x : Setting) (params slots : ℕ) (fit : SlotsFit x slots) (counts : C
         (λ v. make_root h u (size_of v)) (value_runs x params slots fit aside h 0 low e s pc [] i fine.2 g f.0.0)
         (λ v s1 j k. region_runs x params slots fit counts aside h (typed w e) v u s1 a j _ _ _ fine.0 fine.1 fine.3 fine.4 k.0 k.1 f.0.1 (fetch_small x.body (suc a) _ f.1)))
         (λ v s1 j k. binds x params slots fit counts aside h n None start v s1 (suc a) j low k.0 k.1
-        (region_pointed h.scope.names s1.names t v (a_region_type _ _ _ _) k.0) k.2 f.1)
+        (region_pointed h.scope.names s1.names t v (a_region_type _ _ _ _) k.0)
+        (no_part_goes _ j.contents (length s1.store) t v (λ p c e. absurd cc)) k.2 f.1)
     form_runs aside h (var_form n (Some t) (Some (region_initializer _ _))) s pc i low fine g f = absurd fine
     form_runs aside h (var_form n None (Some (equal_initializer r e))) s pc i low fine g f =
         let w = where_of params h in
@@ -220,7 +223,8 @@ module _ (x : Setting) (params slots : ℕ) (fit : SlotsFit x slots) (counts : C
         (λ v. λ s1. and_then (colours h v s1) (λ k. λ s2. and_then (region_named h r s2) (λ q. given (partitioned q.root equal_flag (equal_sets q.points k)))))
         (value_runs x params slots fit aside h 0 low e s pc [] i fine.2 g f.0.0)
         (λ v s1 j k. equal_runs x params slots fit aside h (typed w e) v r h.scope.next s1 a j fine.1 fine.3 k.0 k.1 f.0.1 (fetch_small x.body (suc a) _ f.1)))
-        (λ v s1 j k. binds x params slots fit counts aside h n None start v s1 (suc a) j low k.0 k.1 k.2 k.3 f.1)
+        (λ v s1 j k. binds x params slots fit counts aside h n None start v s1 (suc a) j low k.0 k.1 k.2
+        (no_part_goes _ j.contents (length s1.store) t v (λ p c e. absurd cc)) k.3 f.1)
     form_runs aside h (var_form n (Some t) (Some (equal_initializer _ _))) s pc i low fine g f = absurd fine
     form_runs aside h (var_form n None (Some (by_field_initializer r f2 e))) s pc i low fine g f =
         let w = where_of params h in
@@ -234,29 +238,28 @@ module _ (x : Setting) (params slots : ℕ) (fit : SlotsFit x slots) (counts : C
         (λ c. given (partitioned q.root by_field_flag (by_field_sets q.points c.numbers k))))))
         (value_runs x params slots fit aside h 0 low e s pc [] i fine.2 g f.0.0)
         (λ v s1 j k. by_field_runs x params slots fit aside h (typed w e) v r f2 h.scope.next s1 a j fine.1 fine.3 k.0 k.1 f.0.1 (fetch_small x.body (suc a) _ f.1)))
-        (λ v s1 j k. binds x params slots fit counts aside h n None start v s1 (suc a) j low k.0 k.1 k.2 k.3 f.1)
+        (λ v s1 j k. binds x params slots fit counts aside h n None start v s1 (suc a) j low k.0 k.1 k.2
+        (no_part_goes _ j.contents (length s1.store) t v (λ p c e. absurd cc)) k.3 f.1)
     form_runs aside h (var_form n (Some t) (Some (by_field_initializer _ _ _))) s pc i low fine g f = absurd fine
     form_runs aside h (var_form n None (Some (image_initializer a p r f2))) s pc i low fine g f =
-        cut_begins x params slots fit counts aside h n (image_initializer a p r f2) s pc i low
+        cut_begins x params slots fit counts aside h n (image_initializer a p r f2) s pc i low (λ p c e. absurd cc)
         (image_runs x params slots fit aside h a p r f2 h.scope.next s pc i fine.1 fine.2 fine.3 fine.4 g f.0 (fetch_small x.body (suc pc) _ f.1)) f.1
     form_runs aside h (var_form n (Some t) (Some (image_initializer _ _ _ _))) s pc i low fine g f = absurd fine
     form_runs aside h (var_form n None (Some (preimage_initializer a p r f2))) s pc i low fine g f =
-        cut_begins x params slots fit counts aside h n (preimage_initializer a p r f2) s pc i low
+        cut_begins x params slots fit counts aside h n (preimage_initializer a p r f2) s pc i low (λ p c e. absurd cc)
         (preimage_runs x params slots fit aside h a p r f2 (preimage_flag (is_disjoint (bound_to h.scope.names p).static_type)) h.scope.next s pc i fine.1 fine.2 fine.3 fine.4 g f.0 (fetch_small x.body (suc pc) _ f.1)) f.1
     form_runs aside h (var_form n (Some t) (Some (preimage_initializer _ _ _ _))) s pc i low fine g f = absurd fine
     form_runs aside h (var_form n None (Some (both_initializer p q))) s pc i low fine g f =
-        cut_begins x params slots fit counts aside h n (both_initializer p q) s pc i low
+        cut_begins x params slots fit counts aside h n (both_initializer p q) s pc i low (λ p c e. absurd cc)
         (both_runs x params slots fit aside h p q (both_flag (is_disjoint (bound_to h.scope.names p).static_type) (is_disjoint (bound_to h.scope.names q).static_type)) h.scope.next s pc i fine.1 g f.0 (fetch_small x.body (suc pc) _ f.1)) f.1
     form_runs aside h (var_form n (Some t) (Some (both_initializer _ _))) s pc i low fine g f = absurd fine
     form_runs aside h (var_form n None (Some (either_initializer p q))) s pc i low fine g f =
-        cut_begins x params slots fit counts aside h n (either_initializer p q) s pc i low
+        cut_begins x params slots fit counts aside h n (either_initializer p q) s pc i low (λ p c e. absurd cc)
         (either_runs x params slots fit aside h p q (either_flag) h.scope.next s pc i fine.1 g f.0 (fetch_small x.body (suc pc) _ f.1)) f.1
     form_runs aside h (var_form n (Some t) (Some (either_initializer _ _))) s pc i low fine g f = absurd fine
     form_runs aside h (for_in_form demanded n domain body) s pc i low fine g f =
-        points_run x params slots fit counts aside h demanded n domain body s pc i low
-        (loops_over x.forms.keeps (where_of params h) domain fine.0) fine.1 g f
-        (λ aside2 s5 p j5 g5 f5. block_runs aside2 (looping h n (taken_from (typed (where_of params h) domain))) body s5 p j5
-        (omega (arith, low)) fine.2 g5 f5)
+        domains_run x params slots fit counts aside h demanded n domain body s pc i low _ fine g f
+        (λ fine_body aside2 s5 p j5 g5 f5. block_runs aside2 (looping h n (taken_from (typed (where_of params h) domain))) body s5 p j5 (omega (arith, low)) fine_body g5 f5)
     form_runs aside h (assign_form n (field_step f2 no_step) how.Set e) s pc i low fine g f =
         let w = where_of params h in
         let t = typed w e in

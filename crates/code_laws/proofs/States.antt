@@ -9,7 +9,7 @@ use Rattle.regent_tree.specs.declared.typing.StaticType.{StaticType}
 use Rattle.regent_tree.specs.Lookup.{is_bound}
 use Rattle.regent_tree.specs.Scopes.{bound_to, with_name}
 use Rattle.regent_tree.specs.Syntax.{Name, Tree}
-use Rattle.regent_tree.specs.Values.{Value, a_number, a_partition, a_pointer, a_region, a_space, a_truth, an_index}
+use Rattle.regent_tree.specs.Values.{Region, Value, a_number, a_partition, a_pointer, a_region, a_space, a_truth, an_index}
 use Rattle.regent_tree.specs.Running.{Calls, State, Here}
 use Rattle.task_code.specs.declared.instr.Instr.TheVariants as instr
 use Rattle.machine_terms.specs.declared.value.Value.{Value as MachineValue}
@@ -22,10 +22,11 @@ use Rattle.code_rules.specs.Programs.{space_code}
 use Rattle.regent_tree.specs.StaticTypes.{spaces_of}
 use Rattle.code_rules.specs.Slots.{slot, counter, beside}
 use Rattle.code_laws.specs.Steps.{Setting, machine_of, placed, on_step, Leads}
-use Rattle.code_laws.specs.Standing.{Answering, program_of, Stands, machine_value, IsInside, IsOf, AreOf, AreReady, nothing, blank, Aside, where_of, Agrees, RegionsStay, SlotsFit}
+use Rattle.code_laws.specs.Standing.{Answering, AreBeside, GoesToPart, program_of, Stands, machine_value, IsInside, IsOf, AreOf, AreReady, nothing, blank, Aside, where_of, Agrees, RegionsStay, SlotsFit}
 use Rattle.code_laws.proofs.Runs.{leads_by}
 use Rattle.code_laws.proofs.Values.{named}
 use Rattle.code_laws.specs.Pointers.{ArePointed, IsPointed}
+use Rattle.code_laws.proofs.Besides.{beside_changes, beside_cut, beside_fewer, beside_set, beside_slots}
 use Rattle.code_laws.proofs.Names.{Grown, typed_more, typed_cut, typed_set, typed_fewer}
 use Rattle.code_laws.proofs.Pointing.{GoAlike, IsNoRegion, pointed_cut, pointed_fewer, pointed_more, pointed_set, region_kept}
 
@@ -76,10 +77,13 @@ module _ (x : Setting) (params slots : ℕ) (fit : SlotsFit x slots) where
   pub bound_more : (o : Aside) (h : Here) (s : State) (i : Instance) (n : Name) (t : StaticType)
       (by_loop : Bool) (v : Value) → params ≤ length h.scope.names →
       slot (where_of params h) (length h.scope.names) < slots → IsOf t v → IsInside x s.store t v →
-      IsPointed h.scope.names s.names t v → Agrees x params slots o h s i → Agrees x params slots o (record h { scope = with_name h.scope n t by_loop })
+      IsPointed h.scope.names s.names t v →
+      ((q : Region) → GoesToPart t v q → (get_or i.frame.slots (beside (where_of params h) (length h.scope.names)) blank
+      ≡ machine_value i.contents (a_region q)) × (q.root < length s.store)) →
+      Agrees x params slots o h s i → Agrees x params slots o (record h { scope = with_name h.scope n t by_loop })
       (record s { names = s.names ++ v ∷ [] })
       (stored (slot (where_of params h) (length h.scope.names)) (machine_value i.contents v) i)
-  bound_more o h s i n t by_loop v low room ty inside pointed g =
+  bound_more o h s i n t by_loop v low room ty inside pointed part g =
       let w = where_of params h in
       let k = length h.scope.names in
       let c = g.count in
@@ -117,6 +121,15 @@ module _ (x : Setting) (params slots : ℕ) (fit : SlotsFit x slots) where
         pointed = pointed_more (record { name = n; number = h.scope.next; place = k; static_type = t; by_loop = by_loop })
             h.scope.names s.names v c refl g.typed pointed g.pointed;
         steady = λ p q l e. get_or-append s.names (v ∷ []) nothing p (omega (arith, l, g.inside)) ∙ g.steady p q l e;
+        besides = (
+          λ q goes.
+              let f = part q (subst (λ u. GoesToPart t u q) last goes) in
+              (low, set_other xs (slot w k) (beside w k) m (λ e. omega (arith, e)) ∙ f.0, f.1),
+          beside_changes (λ p. get_or xs (beside w p) blank) (λ p. get_or (slice_set xs (slot w k) m) (beside w p) blank) i.contents i.contents params
+              (length s.store) (length s.store) h.scope.names s.names (s.names ++ v ∷ []) g.typed
+              (λ p l e. set_other xs (slot w k) (beside w p) m (λ q. omega (arith, q, l, e))) (λ q e. (refl, e))
+              (λ p t q e goes. subst (λ u. GoesToPart t u q) (get_or-append s.names (v ∷ []) nothing p (omega (arith, e, c))) goes) g.besides,
+        );
         count = grown;
         inside = omega (arith, g.inside, grown, c);
         slots_are = length-set xs (slot w k) m ∙ g.slots_are;
@@ -139,10 +152,12 @@ module _ (x : Setting) (params slots : ℕ) (fit : SlotsFit x slots) where
       slot (where_of params h) (bound_to h.scope.names n).place < slots →
       IsOf (bound_to h.scope.names n).static_type v → IsInside x s.store (bound_to h.scope.names n).static_type v →
       IsNoRegion (get_or s.names (bound_to h.scope.names n).place nothing) →
-      GoAlike (get_or s.names (bound_to h.scope.names n).place nothing) v → Agrees x params slots o h s i →
+      GoAlike (get_or s.names (bound_to h.scope.names n).place nothing) v →
+      ((t : StaticType) (q : Region) → GoesToPart t v q → GoesToPart t (get_or s.names (bound_to h.scope.names n).place nothing) q) →
+      Agrees x params slots o h s i →
       Agrees x params slots o h (record s { names = slice_set s.names (bound_to h.scope.names n).place v })
       (stored (slot (where_of params h) (bound_to h.scope.names n).place) (machine_value i.contents v) i)
-  changed o h s i n v b room ty inside none alike g =
+  changed o h s i n v b room ty inside none alike part g =
       let w = where_of params h in
       let k = (bound_to h.scope.names n).place in
       let c = g.count in
@@ -174,6 +189,9 @@ module _ (x : Setting) (params slots : ℕ) (fit : SlotsFit x slots) where
         inside_store = typed_set (IsInside x s.store) h.scope.names s.names n v (omega (arith, c)) b inside g.inside_store;
         pointed = pointed_set h.scope.names s.names k v (omega (arith, low, c)) none alike g.pointed;
         steady = λ p q l e. region_kept s.names k v none p q (g.steady p q l e);
+        besides = beside_set (λ p. get_or xs (beside w p) blank) (λ p. get_or (slice_set xs (slot w k) m) (beside w p) blank) i.contents params
+            (length s.store) h.scope.names s.names k v g.typed (omega (arith, low, c)) part
+            (λ p l e. set_other xs (slot w k) (beside w p) m (λ q. omega (arith, q, l))) g.besides;
         count = same ∙ c;
         inside = omega (arith, g.inside, same);
         slots_are = length-set xs (slot w k) m ∙ g.slots_are;
@@ -213,6 +231,10 @@ module _ (x : Setting) (params slots : ℕ) (fit : SlotsFit x slots) where
             (typed_fewer IsOf grown.more h.scope.names s.names (subst (λ bs. AreOf IsOf bs s.names) grown.are g.typed))
             (pointed_fewer grown.more h.scope.names s.names (subst (λ bs. ArePointed bs s.names) grown.are g.pointed));
         steady = λ p q l e. get_or-take n s.names p nothing (omega (arith, l, up)) ∙ g.steady p q l e;
+        besides = beside_cut (λ p. get_or i.frame.slots (beside w p) blank) i.contents params (length s.store) h.scope.names s.names n (omega (arith, e))
+            (typed_fewer IsOf grown.more h.scope.names s.names (subst (λ bs. AreOf IsOf bs s.names) grown.are g.typed))
+            (beside_fewer (λ p. get_or i.frame.slots (beside w p) blank) i.contents params (length s.store) grown.more h.scope.names s.names
+            (subst (λ bs. AreBeside (λ p. get_or i.frame.slots (beside w p) blank) i.contents params (length s.store) bs s.names) grown.are g.besides));
         count = len ∙ e;
         inside = omega (arith, len, up);
         slots_are = g.slots_are;
@@ -231,7 +253,7 @@ module _ (x : Setting) (params slots : ℕ) (fit : SlotsFit x slots) where
 
   -- a loop's counter, or its limit, beside the slots that are kept_number
   pub aside_stored : (o : Aside) (h : Here) (s : State) (i : Instance) (k d : ℕ) (v : MachineValue) →
-      params ≤ k → o.upto ≤ k → length h.scope.names ≤ suc k → 0 < d → d < 3 → is_pending v ≡ false →
+      params ≤ k → o.upto ≤ k → length h.scope.names + d ≤ k + 2 → 0 < d → d < 3 → is_pending v ≡ false →
       Agrees x params slots o h s i →
       Agrees x params slots o h s (stored (slot (where_of params h) k + d) v i)
   aside_stored o h s i k d v low up names some few quiet g =
@@ -248,6 +270,9 @@ module _ (x : Setting) (params slots : ℕ) (fit : SlotsFit x slots) where
         inside_store = g.inside_store;
         pointed = g.pointed;
         steady = g.steady;
+        besides = beside_slots (λ p. get_or xs (beside w p) blank) (λ p. get_or (slice_set xs (slot w k + d) v) (beside w p) blank) i.contents params
+            (length s.store) h.scope.names s.names g.typed
+            (λ p l e. set_other xs (slot w k + d) (beside w p) v (λ q. omega (arith, q, l, e, names, some, few, low))) g.besides;
         count = g.count;
         inside = g.inside;
         slots_are = length-set xs (slot w k + d) v ∙ g.slots_are;
@@ -275,6 +300,7 @@ module _ (x : Setting) (params slots : ℕ) (fit : SlotsFit x slots) where
     inside_store = g.inside_store;
     pointed = g.pointed;
     steady = λ p q l e. e;
+    besides = g.besides;
     count = g.count;
     inside = l;
     slots_are = g.slots_are;
@@ -324,6 +350,10 @@ module _ (x : Setting) (params slots : ℕ) (fit : SlotsFit x slots) where
             (typed_fewer IsOf grown.more h.scope.names s2.names (subst (λ bs. AreOf IsOf bs s2.names) grown.are g.typed))
             (pointed_fewer grown.more h.scope.names s2.names (subst (λ bs. ArePointed bs s2.names) grown.are g.pointed));
         steady = λ p q l e. get_or-take n s2.names p nothing (omega (arith, l, low)) ∙ g.steady p q (omega (arith, l, up)) (steady p q l e);
+        besides = beside_cut (λ p. get_or j.frame.slots (beside w p) blank) j.contents params (length s2.store) h.scope.names s2.names n (omega (arith, en))
+            (typed_fewer IsOf grown.more h.scope.names s2.names (subst (λ bs. AreOf IsOf bs s2.names) grown.are g.typed))
+            (beside_fewer (λ p. get_or j.frame.slots (beside w p) blank) j.contents params (length s2.store) grown.more h.scope.names s2.names
+            (subst (λ bs. AreBeside (λ p. get_or j.frame.slots (beside w p) blank) j.contents params (length s2.store) bs s2.names) grown.are g.besides));
         count = len ∙ en;
         inside = omega (arith, len, low);
         slots_are = g.slots_are;

@@ -62,6 +62,7 @@ use Rattle.code_laws.proofs.Runs.{ends_by, leads_end}
 use Rattle.code_laws.proofs.Segments.{segments_give}
 use Rattle.code_laws.proofs.Statements.{block_runs}
 use Rattle.code_laws.proofs.Values.{simple_inside}
+use Rattle.code_laws.proofs.Besides.{back_beside}
 
 -- ---- arguments and results
 
@@ -249,7 +250,8 @@ module _ (handing keeping : Bool) (tree : Tree) (turns : ℕ) (few : turns < 2 ^
       (taken_inside x vs takes (code_of tree) store 0 (length t.params) ts vs refl refl
       (λ y e. all_take handing tree u t y (sym from ∙ e)) (omega (arith, room.0)) (λ k. ap (λ j. get_or vs j (a_truth false)) (omega arith)) (params_own tree t.params 0 t.params) takes_it.taken)
       (entered_pointed sc ts vs many sc.names placed (omega arith) (λ i low. refl) (names_typed IsOf sc.names vs from_first (taken_typed takes (code_of tree) store ts vs takes_it.taken))
-      (names_typed (Enters sc vs) sc.names (entered sc vs ts vs) from_first (taken_enters sc vs takes (code_of tree) store ts vs takes_it.taken takes_it.divided)) takes_it.back) room.1 holds
+      (names_typed (Enters sc vs) sc.names (entered sc vs ts vs) from_first (taken_enters sc vs takes (code_of tree) store ts vs takes_it.taken takes_it.divided)) takes_it.back)
+      (λ at. back_beside at c (length t.params) (length store) sc.names sc.names (entered sc vs ts vs) takes_it.back) room.1 holds
       (λ n h. asked_covered (code_of tree) c vs code.needs store (memory_of i) refl takes_it.required n (needs_are handing tree t n h))
       (parts_are handing tree u t vs (λ y e. takes_it.parts y (from ∙ e))) takes_it.kept in
       let low : length t.params ≤ length h.scope.names = omega (arith, params_length tree t.params 0 t.params) in

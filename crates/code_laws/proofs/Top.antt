@@ -54,6 +54,7 @@ use Rattle.code_laws.proofs.Entering.{plain_entered}
 use Rattle.code_laws.proofs.Runs.{ends_by, leads_end}
 use Rattle.code_laws.proofs.Segments.{segments_give}
 use Rattle.code_laws.proofs.Statements.{block_runs}
+use Rattle.code_laws.proofs.Besides.{plain_beside}
 
 -- the inputs are numbers
 inputs_kept : (ts : List StaticType) (zs : List ℤ) → length zs ≡ length ts →
@@ -163,7 +164,9 @@ typed_run_ends forms tree inputs turns answers p =
     let room : length t.params ≤ code.slots = least_slots (length t.params) code.body in
     let few : length vs ≤ code.slots = omega (arith, taken_length IsOf ts vs p.taken, params, room) in
     let g = opens tree turns 63 1 t place vs [] no_contents [] [] forms (calls_at tree turns 63) answers p.taken (inputs_inside x [] ts inputs p.taken)
-    (all_plain sc.names (entered sc vs ts vs) (names_typed (λ u v. IsPlain v) sc.names (entered sc vs ts vs) (params_from tree t.params 0 t.params) (inputs_plain sc vs ts inputs p.taken))) few
+    (all_plain sc.names (entered sc vs ts vs) (names_typed (λ u v. IsPlain v) sc.names (entered sc vs ts vs) (params_from tree t.params 0 t.params) (inputs_plain sc vs ts inputs p.taken)))
+    (λ at. plain_beside at no_contents (length t.params) 0 sc.names (entered sc vs ts vs)
+    (names_typed (λ u v. IsPlain v) sc.names (entered sc vs ts vs) (params_from tree t.params 0 t.params) (inputs_plain sc vs ts inputs p.taken))) few
     (first_holds (code_of tree) i.frame) (λ n h u asked. absurd (nothing_asked n u asked))
     (λ q h. (refl, λ root point is. absurd (not_true is.1))) (none_kept tree) in
     let low : length t.params ≤ length h.scope.names = omega (arith, params_length tree t.params 0 t.params) in

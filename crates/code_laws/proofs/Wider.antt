@@ -12,7 +12,7 @@ use Rattle.code_laws.specs.Pointers.{AreCompared, Assigned, Begins, BeginsAs, Be
 use Rattle.code_laws.specs.Simple.{IsNumber, IsSimple, IsSpace, number_index, number_integer, scalar_integer, scalar_truth, simple_index, simple_integer, simple_space, simple_truth, two_integers, two_truths}
 use Rattle.regent_tree.specs.Syntax.{Expression}
 use Rattle.code_rules.specs.Slots.{typed}
-use Rattle.code_laws.specs.Typed.{IsAnyField, IsBegun, IsDifference, IsFieldOf, IsKeepable, IsNamedRegion, IsPointing, LoopsOver}
+use Rattle.code_laws.specs.Typed.{IsAnyField, IsBegun, IsDifference, IsFieldOf, IsKeepable, IsNamedRegion, IsPointing, LoopsOver, IsLooped, LoopsOverPart}
 use Rattle.code_laws.proofs.Values.{not_true}
 
 pub counting : (b : Bool) (t : StaticType) → CountsAs b t → IsCounting t
@@ -81,6 +81,11 @@ begun_apart true w e B q d = inr d
 pub loops_over : (b : Bool) (w : Where) (e : Expression) → LoopsOver b w e → IsSpace (typed w e) ⊎ IsNamedRegion w e
 loops_over false w e p = inl p
 loops_over true w e p = p
+
+pub looped_over : (b : Bool) (w : Where) (e : Expression) (Typed Part Body : Type 0) → IsLooped b w e Typed Part Body →
+    (LoopsOver b w e × Typed × Body) ⊎ (LoopsOverPart w e Part × Body)
+looped_over false w e Typed Part Body p = inl p
+looped_over true w e Typed Part Body p = p
 
 -- what goes into it is no pointer
 pub into_simple : (t u : StaticType) → GoesInto t u → IsSimple u

@@ -14,6 +14,7 @@ use Rattle.regent_tree.specs.declared.typing.Bound.{Bound}
 use Rattle.regent_tree.specs.declared.typing.StaticType.{StaticType}
 use Rattle.regent_tree.specs.declared.typing.StaticType.TheVariants.{Index as index_type, Ispace as ispace_type, Partition as partition_type, Pointer as pointer_type}
 use Rattle.partitions.specs.Laws.{ArePartsOf, NoneShared}
+use Rattle.plain_values.specs.Points.{has}
 use Rattle.regent_tree.specs.Accesses.{space_in}
 use Rattle.regent_tree.specs.Scopes.{bound_as}
 use Rattle.regent_tree.specs.StaticTypes.{Reach, kind_said}
@@ -21,7 +22,7 @@ use Rattle.regent_tree.specs.Typing.{parent_of, reaches_of}
 use Rattle.regent_tree.specs.Values.{Partition, Region, Value, a_partition, a_pointer, a_region, a_truth}
 use Rattle.regent_tree.specs.declared.types.TypeTerm.{TypeTerm}
 use Rattle.value_laws.specs.Shapes.{regions_listed}
-use Rattle.code_laws.specs.Simple.{AreAlike, AreComparable, FieldFits, IsIntegerTerm, IsNumber, IsRegion, IsScalar, IsSimple, SignsFit}
+use Rattle.code_laws.specs.Simple.{AreAlike, AreComparable, FieldFits, IsIntegerTerm, IsNumber, IsPartition, IsRegion, IsScalar, IsSimple, SignsFit}
 
 -- ---- types
 
@@ -32,9 +33,14 @@ AreNames (Some (term.Name i) ∷ rs) = AreNames rs
 AreNames (Some (term.Child p c) ∷ rs) = ⊥
 AreNames (None ∷ rs) = AreNames rs
 
--- a pointer to elements of regions that have names, or to elements of any
+-- or the one region is a part
+abbrev pub AreAims : List Reach → Type 0
+AreAims (Some (term.Child p c) ∷ rs) = rs ≡ []
+AreAims rs = AreNames rs
+
+-- a pointer to elements of regions that have names, to elements of any, or to those of a part
 pub data IsPointer : StaticType → Type 0 where
-  a_pointer_type : (k : Kind) (sp : ℕ) (args rs : List Reach) → AreNames rs → IsPointer (pointer_type k sp args rs)
+  a_pointer_type : (k : Kind) (sp : ℕ) (args rs : List Reach) → AreAims rs → IsPointer (pointer_type k sp args rs)
 
 -- what counts as a number: an integer, an index, or a pointer, which stands for its point
 pub data IsCounting : StaticType → Type 0 where
@@ -206,10 +212,19 @@ pub record IsOfName (b : Bound) (upto : ℕ) (names : List Value) (sp i : ℕ) (
   pub below : b.place < upto
   pub value : get_or names b.place (a_truth false) ≡ a_region q
 
+-- a region lies within that of which a partition is that has a number
+pub record IsOfPart (bs : List Bound) (b : Bound) (upto : ℕ) (names : List Value) (sp p : ℕ) (q : Region) : Type 0 where
+  pub numbered : b.number ≡ p
+  pub partition : IsPartition b.static_type
+  pub parent : Region
+  pub is : IsOfName (bound_as bs (parent_of b.static_type)) upto names sp (parent_of b.static_type) parent
+  pub root : q.root ≡ parent.root
+  pub within : (n : ℕ) → has q.points n ≡ true → has parent.points n ≡ true
+
 abbrev pub AreReached : List Bound → List Value → ℕ → List Reach → List Region → Type 0
 AreReached bs names sp [] [] = Unit {0}
 AreReached bs names sp (Some (term.Name i) ∷ rs) (q ∷ qs) = IsOfName (bound_as bs i) (length bs) names sp i q × AreReached bs names sp rs qs
-AreReached bs names sp (Some (term.Child p c) ∷ rs) (q ∷ qs) = AreReached bs names sp rs qs
+AreReached bs names sp (Some (term.Child p c) ∷ rs) (q ∷ qs) = IsOfPart bs (bound_as bs p) (length bs) names sp p q × AreReached bs names sp rs qs
 AreReached bs names sp (None ∷ rs) (q ∷ qs) = AreReached bs names sp rs qs
 AreReached bs names sp _ _ = ⊥
 

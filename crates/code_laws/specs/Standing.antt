@@ -12,10 +12,12 @@ use Rattle.regent_tree.specs.declared.typing.Bound.{Bound}
 use Rattle.regent_tree.specs.declared.typing.StaticType.{StaticType}
 use Rattle.regent_tree.specs.declared.typing.StaticType.TheVariants.{Integer as integer_type, Truth as truth_type, Index as index_type, Pointer as pointer_type, Ispace as ispace_type, Region as region_type, Partition as partition_type}
 use Rattle.regent_tree.specs.declared.types.Kind.{Kind}
+use Rattle.regent_tree.specs.declared.facts.Colour.{Colour}
 use Rattle.regent_tree.specs.declared.facts.Term.{Term}
+use Rattle.regent_tree.specs.declared.facts.Term.TheVariants as term
 use Rattle.regent_tree.specs.StaticTypes.{Reach, spaces_of, task_named}
 use Rattle.regent_tree.specs.Store.{Store, Touch, column, no_root}
-use Rattle.regent_tree.specs.Values.{Target, Region, Partition, Value, a_number, a_truth, an_index, a_pointer, a_space, a_region, a_partition, kept_number}
+use Rattle.regent_tree.specs.Values.{Target, Region, Partition, Value, a_number, a_truth, an_index, a_pointer, a_space, a_region, a_partition, kept_number, regions_of}
 use Rattle.regent_tree.specs.Running.{State, Here, Called, Calls, Result, broke, came_back, gives, fails}
 use Rattle.regent_tree.specs.Execution.{Going, goes_on, returned}
 use Rattle.machine_terms.specs.declared.order.Ended.{Ended}
@@ -41,7 +43,7 @@ use Rattle.task_code.specs.declared.code.NeedCode.{NeedCode}
 use Rattle.regent_tree.specs.Laws.{SameRoots}
 use Rattle.regent_tree.specs.Scopes.{scope_of}
 use Rattle.regent_tree.specs.Syntax.{Name, Tree}
-use Rattle.regent_tree.specs.Typing.{param_types, result_type}
+use Rattle.regent_tree.specs.Typing.{param_types, reaches_of, result_type}
 use Rattle.regent_tree.specs.declared.outcome.Fault.{Fault}
 use Rattle.regent_tree.specs.declared.outcome.FaultKind.TheVariants.{Depth}
 use Rattle.task_code.specs.declared.code.Code.{Code}
@@ -262,9 +264,28 @@ pub record MayCall (x : Setting) (f : Frame) (results : List ℤ) : Type 0 where
 abbrev pub RegionsStay : ℕ → List Value → List Value → Type 0
 RegionsStay n names after = (p : ℕ) (q : Region) → p < n → get_or names p nothing ≡ a_region q → get_or after p nothing ≡ a_region q
 
+-- the region of a pointer into a part, by its type
+pub record GoesToPart (t : StaticType) (v : Value) (q : Region) : Type 0 where
+  pub partition : ℕ
+  pub colour : Colour
+  pub into : reaches_of t ≡ Some (term.Child partition colour) ∷ []
+  pub regions : regions_of v ≡ q ∷ []
+
+-- it stands beside the pointer, whose place is none of a parameter's; and its root is there
+abbrev pub IsBeside : (ℕ → MachineValue) → Contents → ℕ → ℕ → ℕ → StaticType → Value → Type 0
+IsBeside at c params roots p t v = (q : Region) → GoesToPart t v q →
+    (params ≤ p) × (at p ≡ machine_value c (a_region q)) × (q.root < roots)
+
+-- so it does of each name's value
+abbrev pub AreBeside : (ℕ → MachineValue) → Contents → ℕ → ℕ → List Bound → List Value → Type 0
+AreBeside at c params roots [] names = Unit {0}
+AreBeside at c params roots (b ∷ bs) names = IsBeside at c params roots b.place b.static_type (get_or names b.place nothing)
+    × AreBeside at c params roots bs names
+
 -- An instance agrees with a state: the names stand in their slots, the turns and the text are alike,
 -- and what it has of the roots stands for the store. The slots beside those of names that were in scope
--- when the innermost loop's round began are as they were then, and so are the regions that these names had.
+-- when the innermost loop's round began are as they were then, and so are the regions that these names had. Beside a
+-- pointer into a part stands the part.
 pub record Agrees (x : Setting) (params slots : ℕ) (o : Aside) (h : Here) (s : State) (i : Instance) : Type 0 where
   pub names : (p : ℕ) → p < length s.names →
       get_or i.frame.slots (slot (where_of params h) p) blank
@@ -278,6 +299,8 @@ pub record Agrees (x : Setting) (params slots : ℕ) (o : Aside) (h : Here) (s :
   pub inside_store : AreOf (IsInside x s.store) h.scope.names s.names
   pub pointed : ArePointed h.scope.names s.names
   pub steady : RegionsStay o.upto o.names s.names
+  pub besides : AreBeside (λ p. get_or i.frame.slots (beside (where_of params h) p) blank) i.contents params (length s.store)
+      h.scope.names s.names
   pub count : length s.names ≡ length h.scope.names
   pub inside : o.upto ≤ length s.names
   pub slots_are : length i.frame.slots ≡ slots

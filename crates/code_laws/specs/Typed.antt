@@ -11,7 +11,7 @@ use Rattle.regent_tree.specs.declared.statement.How.TheVariants as how
 use Rattle.regent_tree.specs.declared.facts.Term.TheVariants as term
 use Rattle.regent_tree.specs.declared.typing.Bound.{Bound}
 use Rattle.regent_tree.specs.declared.typing.StaticType.{StaticType}
-use Rattle.regent_tree.specs.declared.typing.StaticType.TheVariants.{Truth as truth_type}
+use Rattle.regent_tree.specs.declared.typing.StaticType.TheVariants.{Partition as partition_type, Truth as truth_type}
 use Rattle.regent_tree.specs.Accesses.{args_in, space_in}
 use Rattle.regent_tree.specs.StaticTypes.{Reach, field_kind, field_place, field_term, field_type, place_of_space, space_at, spaces_of, task_named}
 use Rattle.regent_tree.specs.Lookup.{is_bound}
@@ -19,7 +19,7 @@ use Rattle.regent_tree.specs.Scopes.{scope_of}
 use Rattle.regent_tree.specs.Numbers.{distance}
 use Rattle.regent_tree.specs.Syntax.{a_statement, Form, var_form, if_form, while_form, for_in_form, for_to_form, do_form, assert_form, print_form, assign_form, return_form, Block, no_statement, then_statement, Arms, no_arm, an_arm, Otherwise, no_else, else_block, both_initializer, by_field_initializer, either_initializer, equal_initializer, image_initializer, preimage_initializer, plain_initializer, region_initializer, Name, Tree, fill_form, call_form, call_expr, Expression, number_expr, truth_expr, chain_expr, prefix_expr, access_expr, convert_expr, Expressions, no_expr, an_expr, Links, no_link, a_link, no_step, field_step, at_step, space_expr, is_null_expr, null_expr, cast_expr}
 use Rattle.regent_tree.specs.Scopes.{bound_as}
-use Rattle.regent_tree.specs.Typing.{arithmetic_type, has_wild, operated, param_types, params_at, reaches_of, result_type, taken_from, type_of_element, type_of_field, var_type}
+use Rattle.regent_tree.specs.Typing.{arithmetic_type, has_wild, is_disjoint, operated, param_types, params_at, parent_of, reaches_of, result_type, taken_from, type_of_element, type_of_field, var_type}
 use Rattle.code_laws.specs.Arguments.{AreDivided, AreMet, ArePaired, AreParted, IsCutName, IsHanded, IsHandedPart, IsParent, LiesBelow, parent_bound}
 use Rattle.code_laws.specs.Pointers.{AreThere, Assigned, BeginsAs, BeginsWith, ConvertsTo, CountsAs, FieldKeeps, FillsInto, IsAssigned, IsCompared, IsCounting, IsPointer, IsRead, IsWritten, PassesInto, SignedAs, AllGoBack}
 use Rattle.code_laws.specs.Simple.{IsInteger, IsTruth, IsScalar, IsSimple, IsSpace, IsRegion, AreAlike, FieldFits, term_in}
@@ -89,6 +89,22 @@ abbrev pub LoopsOver : Bool → Where → Expression → Type 0
 LoopsOver false w e = IsSpace (typed w e)
 LoopsOver true w e = IsSpace (typed w e) ⊎ IsNamedRegion w e
 
+-- a name has a partition of its own number
+abbrev pub IsOwnCut : Where → Name → Type 0
+IsOwnCut w n = (bound w n).static_type
+    ≡ partition_type (is_disjoint (bound w n).static_type) (parent_of (bound w n).static_type) (bound w n).number
+
+-- or a part of a partition that has a name, of whose colour something holds
+abbrev pub LoopsOverPart : Where → Expression → Type 0 → Type 0
+LoopsOverPart w (access_expr n (at_step e no_step)) Part =
+    IsCutName w n × IsOwnCut w n × IsRegion (typed w (access_expr n (at_step e no_step))) × Part
+LoopsOverPart w e Part = ⊥
+
+-- so a loop goes over something, with a body
+abbrev pub IsLooped : Bool → Where → Expression → Type 0 → Type 0 → Type 0 → Type 0
+IsLooped false w e Typed Part Body = LoopsOver false w e × Typed × Body
+IsLooped true w e Typed Part Body = (LoopsOver true w e × Typed × Body) ⊎ (LoopsOverPart w e Part × Body)
+
 -- the type of a field of an element
 abbrev pub element_field : Where → Name → Expression → Name → StaticType
 element_field w n e f = type_of_field w.tree (type_of_element w.scope (bound w n).static_type e) f
@@ -153,12 +169,14 @@ MayFill forms w n [] = Unit {0}
 MayFill forms w n (f ∷ fs) =
     MayTouch forms w n (field_place w.tree (space_in (bound w n).static_type) f) mode.Write × MayFill forms w n fs
 
--- so it may of each region that a pointer's type names
+-- so it may of each region that a pointer's type names, of a part as of the whole
 abbrev pub MayReach : Forms → Where → List Reach → ℕ → Mode → Type 0
 MayReach forms w [] field a = Unit {0}
 MayReach forms w (Some (term.Name i) ∷ rs) field a =
     MayDo forms.takes (term_in (bound_as w.scope.names i).static_type) field a × MayReach forms w rs field a
-MayReach forms w (Some (term.Child p c) ∷ rs) field a = MayReach forms w rs field a
+MayReach forms w (Some (term.Child p c) ∷ rs) field a =
+    MayDo forms.takes (term_in (bound_as w.scope.names (parent_of (bound_as w.scope.names p).static_type)).static_type) field a
+    × MayReach forms w rs field a
 MayReach forms w (None ∷ rs) field a = MayReach forms w rs field a
 
 -- so it may to a field through a name's pointer
@@ -283,8 +301,9 @@ abbrev mutual
   IsTypedForm forms w (for_to_form demanded n from to body) =
       IsInteger (typed w from) × IsInteger (typed w to) × IsTyped forms w from × IsTyped forms w to
       × IsTypedBlock forms (looping w n (arithmetic_type (typed w from) (typed w to))) body
-  IsTypedForm forms w (for_in_form demanded n domain body) = LoopsOver forms.keeps w domain × IsTyped forms w domain
-      × IsTypedBlock forms (looping w n (taken_from (typed w domain))) body
+  IsTypedForm forms w (for_in_form demanded n domain body) =
+      IsLooped forms.keeps w domain (IsTyped forms w domain) (IsIndexed forms w domain)
+      (IsTypedBlock forms (looping w n (taken_from (typed w domain))) body)
   IsTypedForm forms w (assign_form n no_step how.Set e) =
       IsAssigned forms.keeps (typed w e) (bound w n).static_type × IsTyped forms w e × (is_bound w.scope.names n ≡ true)
   IsTypedForm forms w (assign_form n no_step (how.Reduce o) e) = IsInteger (typed w e)

@@ -1,6 +1,6 @@
 -- Odd words, computed on the definition. Each sentence of the rules on words stands by one or two.
 use Rattle.std.proofs.Common.{◌≡◌, List, [], ◌∷◌, Option, Some, None, true, false, codes, refl}
-use Rattle.command_words.specs.Commands.{Command, checks, command, runs, samples}
+use Rattle.command_words.specs.Commands.{Command, checks, command, runs, sample_run, samples}
 use Rattle.command_words.specs.Settings.{Text}
 
 abbrev says : List Text → Option Command
@@ -8,7 +8,7 @@ says words = command (codes "regent" ∷ words)
 
 -- an option anywhere behind the command, in both forms, with leading zeros
 anywhere : says (codes "run" ∷ codes "--turns=007" ∷ codes "f" ∷ codes "5" ∷ codes "--workers" ∷ codes "0" ∷ codes "6" ∷ codes "--trace" ∷ [])
-    ≡ Some (runs (record { file = codes "f"; numbers = codes "5" ∷ codes "6" ∷ []; workers_named = Some 0; turns_named = Some 7; dumps = false; traces = true }))
+    ≡ Some (runs (codes "f") (record { numbers = codes "5" ∷ codes "6" ∷ []; workers_named = Some 0; turns_named = Some 7; dumps = false; traces = true }))
 anywhere = refl
 
 -- but not before it
@@ -38,7 +38,7 @@ no_value = refl
 
 -- behind `--` each word is positional, a second `--` too
 behind : says (codes "run" ∷ codes "--" ∷ codes "--dump" ∷ codes "--" ∷ codes "-3" ∷ [])
-    ≡ Some (runs (record { file = codes "--dump"; numbers = codes "--" ∷ codes "-3" ∷ []; workers_named = None; turns_named = None; dumps = false; traces = false }))
+    ≡ Some (runs (codes "--dump") (record { numbers = codes "--" ∷ codes "-3" ∷ []; workers_named = None; turns_named = None; dumps = false; traces = false }))
 behind = refl
 
 -- before it a word that begins with `-` is no positional one, but for `-` alone; the empty word is
@@ -46,7 +46,7 @@ minus_word : says (codes "run" ∷ codes "f" ∷ codes "-3" ∷ []) ≡ None
 minus_word = refl
 
 dash_and_empty : says (codes "run" ∷ codes "-" ∷ [] ∷ [])
-    ≡ Some (runs (record { file = codes "-"; numbers = [] ∷ []; workers_named = None; turns_named = None; dumps = false; traces = false }))
+    ≡ Some (runs (codes "-") (record { numbers = [] ∷ []; workers_named = None; turns_named = None; dumps = false; traces = false }))
 dash_and_empty = refl
 
 -- a name that is cut short, longer, or followed by `=` alone isn't known
@@ -61,14 +61,14 @@ second_equals : says (codes "run" ∷ codes "--workers==3" ∷ codes "f" ∷ [])
 second_equals = refl
 
 -- limits
-most : says (codes "sample" ∷ codes "--workers" ∷ codes "64" ∷ codes "064" ∷ []) ≡ Some (samples (Some 64) 64)
+most : says (codes "sample" ∷ codes "--workers" ∷ codes "64" ∷ codes "064" ∷ []) ≡ Some (samples 64 (sample_run (Some 64)))
 most = refl
 
 past_turns : says (codes "run" ∷ codes "--turns" ∷ codes "1099511627777" ∷ codes "f" ∷ []) ≡ None
 past_turns = refl
 
-no_cell : says (codes "sample" ∷ codes "0" ∷ []) ≡ None
-no_cell = refl
+no_colour : says (codes "sample" ∷ codes "0" ∷ []) ≡ None
+no_colour = refl
 
 -- a command knows its own settings alone
 check_knows_none : says (codes "check" ∷ codes "f" ∷ codes "--trace" ∷ []) ≡ None

@@ -1,5 +1,5 @@
 -- What the words of the command line say: a command, or nothing where they are refused.
-use Rattle.std.specs.Prelude.{ℕ, ◌&&◌, ◌^◌, Bool, List, [], ◌∷◌, Option, Some, None, length, nat_le, option_and_then, option_map, unwrap_or, if◌then◌else◌}
+use Rattle.std.specs.Prelude.{ℕ, ◌&&◌, ◌^◌, Bool, false, List, [], ◌∷◌, Option, Some, None, length, nat_le, option_and_then, option_map, unwrap_or, if◌then◌else◌}
 use Rattle.std.specs.Char.{is_digit}
 use Rattle.std.specs.List.{list_all}
 use Rattle.std.specs.Str.Parse.{digits_value}
@@ -35,8 +35,8 @@ most_workers = 64
 abbrev pub most_turns : ℕ
 most_turns = 2 ^ 40
 
-abbrev pub most_cells : ℕ
-most_cells = 64
+abbrev pub most_colours : ℕ
+most_colours = 64
 
 abbrev pub default_workers : ℕ
 default_workers = 4
@@ -53,20 +53,19 @@ turns_or_default named = unwrap_or named default_turns
 
 -- ---- commands
 
--- A program is run, with these words for its numbers; a program is checked; or the sample of so many
--- cells is run.
+-- how a program is run: the words for its numbers, how many workers and turns are named, and what is told besides
 pub record Run : Type 0 where
-  pub file : Text
   pub numbers : List Text
   pub workers_named : Option ℕ
   pub turns_named : Option ℕ
   pub dumps : Bool
   pub traces : Bool
 
+-- The program of a file is run; it is checked; or the sample of so many colours is run.
 pub data Command : Type 0 where
-  runs : Run → Command
+  runs : Text → Run → Command
   checks : Text → Command
-  samples : Option ℕ → ℕ → Command
+  samples : ℕ → Run → Command
 
 -- what the uses come to: the positional words, the values of the options and whether the flags stand
 -- there
@@ -89,8 +88,7 @@ said_by all = record {
 -- to run: a file and numbers
 abbrev pub run_of : Said → List Text → Option ℕ → Option ℕ → Option Command
 run_of said [] w t = None
-run_of said (file ∷ numbers) w t = Some (runs (record {
-  file = file;
+run_of said (file ∷ numbers) w t = Some (runs file (record {
   numbers = numbers;
   workers_named = w;
   turns_named = t;
@@ -104,11 +102,21 @@ check_of [] = None
 check_of (file ∷ []) = Some (checks file)
 check_of (file ∷ word ∷ words) = None
 
+-- the sample is run by so many workers, without numbers, by as many turns as hold where none are named
+abbrev pub sample_run : Option ℕ → Run
+sample_run w = record {
+  numbers = [];
+  workers_named = w;
+  turns_named = None;
+  dumps = false;
+  traces = false;
+}
+
 -- a sample: one number and no other word
 abbrev pub sample_of : List Text → Option ℕ → Option Command
 sample_of [] w = None
-sample_of (cells ∷ []) w = option_map (samples w) (number 1 most_cells cells)
-sample_of (cells ∷ word ∷ words) w = None
+sample_of (colours ∷ []) w = option_map (λ n. samples n (sample_run w)) (number 1 most_colours colours)
+sample_of (colours ∷ word ∷ words) w = None
 
 -- the command of this name, where this is said
 abbrev pub command_of : CommandName → Said → Option Command

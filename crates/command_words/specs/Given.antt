@@ -13,7 +13,6 @@ texts words = map string_bytes words
 
 abbrev pub run_given : GivenRun → Run
 run_given r = record {
-  file = r.file.now;
   numbers = map (λ word. word.now) r.numbers.items;
   workers_named = r.workers;
   turns_named = r.turns;
@@ -22,9 +21,9 @@ run_given r = record {
 }
 
 abbrev pub command_given : GivenCommand → Command
-command_given (given.Run r) = runs (run_given r)
+command_given (given.Run file r) = runs file.now (run_given r)
 command_given (given.Check file) = checks file.now
-command_given (given.Sample workers cells) = samples workers cells
+command_given (given.Sample colours r) = samples colours (run_given r)
 
 abbrev pub said_given : GivenSaid → Said
 said_given s = record {

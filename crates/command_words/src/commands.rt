@@ -9,8 +9,8 @@ pub const MOST_WORKERS: u64 = 64;
 /// The greatest number of turns that may be named.
 pub const MOST_TURNS: u64 = 1 << 40;
 
-/// The greatest number of cells of a sample.
-pub const MOST_CELLS: u64 = 64;
+/// The greatest number of colours of a sample.
+pub const MOST_COLOURS: u64 = 64;
 
 /// How many workers there are: the number that is named, or the one that holds without it.
 pub fn workers_or_default(named: Option<u64>) -> u64
@@ -26,11 +26,10 @@ pub fn turns_or_default(named: Option<u64>) -> u64
     named.unwrap_or(1_000_000)
 }
 
-/// A program that is run. The words of its numbers aren't read yet: which numbers they may be depends on
+/// How a program is run. The words of its numbers aren't read yet: which numbers they may be depends on
 /// the program.
 #[derive(Debug, Drop)]
 pub struct Run<'a> {
-    pub file: &'a str,
     pub numbers: Vec<&'a str>,
     /// The number of workers, where it is named.
     pub workers: Option<u64>,
@@ -43,7 +42,7 @@ pub struct Run<'a> {
 /// What is to be done.
 #[derive(Debug, Drop)]
 pub enum Command<'a> {
-    Run(Run<'a>),
+    Run { file: &'a str, run: Run<'a> },
     Check { file: &'a str },
-    Sample { workers: Option<u64>, cells: u64 },
+    Sample { colours: u32, run: Run<'a> },
 }

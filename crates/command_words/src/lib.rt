@@ -18,7 +18,7 @@ mod said;
 mod tests;
 
 pub use commands::{
-    Command, MOST_CELLS, MOST_TURNS, MOST_WORKERS, Run, turns_or_default, workers_or_default,
+    Command, MOST_COLOURS, MOST_TURNS, MOST_WORKERS, Run, turns_or_default, workers_or_default,
 };
 pub use fault::WordsFault;
 pub use read::command;

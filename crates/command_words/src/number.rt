@@ -1,6 +1,6 @@
 //! Numbers, from their texts.
 
-ghost use Rattle.std.specs.Prelude.{◌≡◌, None, Some, option_map};
+ghost use Rattle.std.specs.Prelude.{◌≡◌, ◌≤◌, IfSome, None, Some, option_map};
 ghost use Rattle.command_words.specs.Commands.{number, number_named};
 ghost use Rattle.command_words.specs.Matched.{IsNumberOf};
 
@@ -16,7 +16,8 @@ fn number_of(word: &str) -> Option<u64>
 
 /// The number of a word, where it is one from `least` to `most`.
 pub fn number(least: u64, most: u64, word: &str) -> Option<u64>
-    ensures { result ≡ number least most word.now }
+    ensures named { result ≡ number least most word.now }
+    ensures within { IfSome result (λ n. n ≤ most) }
 {
     let value = number_of(word)?;
     if least <= value && value <= most {

@@ -8,7 +8,7 @@ ghost use Rattle.command_words.specs.Given.{command_given, said_given, texts};
 ghost use Rattle.command_words.specs.Settings.{check, command_named, run, sample};
 ghost use Rattle.command_words.specs.declared.fault.WordsFault.TheVariants.{Refused};
 
-use crate::commands::{Command, MOST_CELLS, MOST_TURNS, MOST_WORKERS, Run};
+use crate::commands::{Command, MOST_COLOURS, MOST_TURNS, MOST_WORKERS, Run};
 use crate::fault::WordsFault;
 use crate::number::{number, number_named};
 use crate::parser;
@@ -32,14 +32,16 @@ fn to_run<'a>(
     };
     let mut numbers = Vec::new(alloc);
     numbers.extend_from_slice(rest)?;
-    Ok(Some(Command::Run(Run {
+    Ok(Some(Command::Run {
         file,
-        numbers,
-        workers,
-        turns,
-        dump: said.dump,
-        trace: said.trace,
-    })))
+        run: Run {
+            numbers,
+            workers,
+            turns,
+            dump: said.dump,
+            trace: said.trace,
+        },
+    }))
 }
 
 /// To run, with the numbers that the options name.
@@ -66,14 +68,20 @@ fn check_of<'a>(said: Said<'_, 'a>) -> Option<Command<'a>>
 }
 
 /// A sample: one number and no other word.
-fn sample_of<'a>(said: Said<'_, 'a>) -> Option<Command<'a>>
+fn sample_of<'a>(alloc: Global, said: Said<'_, 'a>) -> Option<Command<'a>>
     ensures { option_map command_given result ≡ command_of sample (said_given said.entry) }
 {
     let workers = number_named(MOST_WORKERS, said.workers)?;
     match said.words {
-        Some([cells]) => Some(Command::Sample {
-            workers,
-            cells: number(1, MOST_CELLS, cells)?,
+        Some([colours]) => Some(Command::Sample {
+            colours: number(1, MOST_COLOURS, colours)? as u32,
+            run: Run {
+                numbers: Vec::new(alloc),
+                workers,
+                turns: None,
+                dump: false,
+                trace: false,
+            },
         }),
         _ => None,
     }
@@ -93,7 +101,7 @@ fn command_of<'a>(
     } else if name == "check" {
         Ok(check_of(said))
     } else if name == "sample" {
-        Ok(sample_of(said))
+        Ok(sample_of(alloc, said))
     } else {
         Ok(None)
     }

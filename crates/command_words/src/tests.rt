@@ -80,9 +80,15 @@ fn push_named(
     }
 }
 
-fn run_text(alloc: Global, run: &Run<'_>) -> Result<String, AllocError> {
-    let mut text = String::from_str(alloc, "run ")?;
-    text.push_str(run.file)?;
+/// A command that runs a program: its name, what is run, and how.
+fn run_text(
+    alloc: Global,
+    command: &str,
+    program: &str,
+    run: &Run<'_>,
+) -> Result<String, AllocError> {
+    let mut text = String::from_str(alloc, command)?;
+    push_all(&mut text, &[" ", program])?;
     for number in &run.numbers {
         push_all(&mut text, &[" [", number, "]"])?;
     }
@@ -99,18 +105,15 @@ fn run_text(alloc: Global, run: &Run<'_>) -> Result<String, AllocError> {
 
 fn command_text(alloc: Global, said: &Command<'_>) -> Result<String, AllocError> {
     match said {
-        Command::Run(run) => run_text(alloc, run),
+        Command::Run { file, run } => run_text(alloc, "run", file, run),
         Command::Check { file } => {
             let mut text = String::from_str(alloc, "check ")?;
             text.push_str(file)?;
             Ok(text)
         }
-        Command::Sample { workers, cells } => {
-            let mut text = String::from_str(alloc, "sample")?;
-            let digits = cells.to_string(alloc)?;
-            push_all(&mut text, &[" ", digits.as_str()])?;
-            push_named(alloc, &mut text, "workers", *workers)?;
-            Ok(text)
+        Command::Sample { colours, run } => {
+            let digits = colours.to_string(alloc)?;
+            run_text(alloc, "sample", digits.as_str(), run)
         }
     }
 }

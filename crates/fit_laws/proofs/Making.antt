@@ -196,17 +196,17 @@ module _ (g : Program) (x : World) (t : TaskCode) (k : ℕ) (m : Machine) (fit :
   Makes sp d s = To g t k (topped (g.marks k m.frame.pc) (partition sp d ∷ (g.marks k m.frame.pc).stack) (top_parted s))
       (suc m.frame.pc)
 
-  pub minus_safe : length t.body ≤ 2 ^ 32 → (p q s : ℕ) (sp : Option ℕ) (hp : HasPartition (g.marks k m.frame.pc) sp p) →
-      HasPartition (g.marks k m.frame.pc) sp q → HasRegion (g.marks k m.frame.pc) sp s → Parted p s →
-      Makes sp hp.disjoint s → Safe g x t k (minus p q s m)
-  minus_safe short p q s sp hp hq hs f to =
+  pub minus_safe : length t.body ≤ 2 ^ 32 → (p q s : ℕ) (sp sq so : Option ℕ) (hp : HasPartition (g.marks k m.frame.pc) sp p) →
+      HasPartition (g.marks k m.frame.pc) sq q → HasRegion (g.marks k m.frame.pc) so s → Parted p s →
+      Makes so hp.disjoint s → Safe g x t k (minus p q s m)
+  minus_safe short p q s sp sq so hp hq hs f to =
       on_partition_safe sp p (λ a. on_partition m q (λ b. on_region m s (λ r. makes r (minus_sets (sets_of a) (sets_of b))
       (minus_flag a.disjoint) m.frame.stack m))) hp (λ a ea ia.
-      on_partition_safe sp q (λ b. on_region m s (λ r. makes r (minus_sets (sets_of a) (sets_of b))
+      on_partition_safe sq q (λ b. on_region m s (λ r. makes r (minus_sets (sets_of a) (sets_of b))
       (minus_flag a.disjoint) m.frame.stack m)) hq (λ b eb ib.
-      on_region_safe sp s (λ r. makes r (minus_sets (sets_of a) (sets_of b)) (minus_flag a.disjoint)
+      on_region_safe so s (λ r. makes r (minus_sets (sets_of a) (sets_of b)) (minus_flag a.disjoint)
       m.frame.stack m) hs (λ c r er ir.
-      partition_safe short s sp hp.disjoint (minus_flag a.disjoint) c r (minus_sets (sets_of a) (sets_of b)) _
+      partition_safe short s so hp.disjoint (minus_flag a.disjoint) c r (minus_sets (sets_of a) (sets_of b)) _
       m.frame.stack er ir ia.flag
       (record {
         parts = without_parts r.points (sets_of a) (sets_of b) (parted_in sp hp.disjoint p s a r f ea er ia).1;
@@ -214,17 +214,17 @@ module _ (g : Program) (x : World) (t : TaskCode) (k : ℕ) (m : Machine) (fit :
         few = omega (arith, each_long minus_of (sets_of a) (sets_of b), sets_long a, ia.count);
       }) to fit.suits.stack)))
 
-  pub meet_safe : length t.body ≤ 2 ^ 32 → (p q s : ℕ) (sp : Option ℕ) (hp : HasPartition (g.marks k m.frame.pc) sp p)
-      (hq : HasPartition (g.marks k m.frame.pc) sp q) → HasRegion (g.marks k m.frame.pc) sp s → Parted p s →
-      Makes sp (hp.disjoint || hq.disjoint) s → Safe g x t k (meet p q s m)
-  meet_safe short p q s sp hp hq hs f to =
+  pub meet_safe : length t.body ≤ 2 ^ 32 → (p q s : ℕ) (sp sq so : Option ℕ) (hp : HasPartition (g.marks k m.frame.pc) sp p)
+      (hq : HasPartition (g.marks k m.frame.pc) sq q) → HasRegion (g.marks k m.frame.pc) so s → Parted p s →
+      Makes so (hp.disjoint || hq.disjoint) s → Safe g x t k (meet p q s m)
+  meet_safe short p q s sp sq so hp hq hs f to =
       on_partition_safe sp p (λ a. on_partition m q (λ b. on_region m s (λ r. makes r (both_sets (sets_of a) (sets_of b))
       (both_flag a.disjoint b.disjoint) m.frame.stack m))) hp (λ a ea ia.
-      on_partition_safe sp q (λ b. on_region m s (λ r. makes r (both_sets (sets_of a) (sets_of b))
+      on_partition_safe sq q (λ b. on_region m s (λ r. makes r (both_sets (sets_of a) (sets_of b))
       (both_flag a.disjoint b.disjoint) m.frame.stack m)) hq (λ b eb ib.
-      on_region_safe sp s (λ r. makes r (both_sets (sets_of a) (sets_of b)) (both_flag a.disjoint b.disjoint)
+      on_region_safe so s (λ r. makes r (both_sets (sets_of a) (sets_of b)) (both_flag a.disjoint b.disjoint)
       m.frame.stack m) hs (λ c r er ir.
-      partition_safe short s sp (hp.disjoint || hq.disjoint) (both_flag a.disjoint b.disjoint) c r
+      partition_safe short s so (hp.disjoint || hq.disjoint) (both_flag a.disjoint b.disjoint) c r
       (both_sets (sets_of a) (sets_of b)) _ m.frame.stack er ir
       (either_flagged hp.disjoint hq.disjoint a.disjoint b.disjoint ia.flag ib.flag)
       (record {
@@ -240,21 +240,21 @@ module _ (g : Program) (x : World) (t : TaskCode) (k : ℕ) (m : Machine) (fit :
       either_flagged false d true b h k e = refl
       either_flagged false d false b h k e = k e
 
-  pub join_safe : length t.body ≤ 2 ^ 32 → (p q s : ℕ) (sp : Option ℕ) → HasPartition (g.marks k m.frame.pc) sp p →
-      HasPartition (g.marks k m.frame.pc) sp q → HasRegion (g.marks k m.frame.pc) sp s → Parted p s → Parted q s →
-      Makes sp false s → Safe g x t k (join p q s m)
-  join_safe short p q s sp hp hq hs f h to =
+  pub join_safe : length t.body ≤ 2 ^ 32 → (p q s : ℕ) (sp sq so : Option ℕ) → HasPartition (g.marks k m.frame.pc) sp p →
+      HasPartition (g.marks k m.frame.pc) sq q → HasRegion (g.marks k m.frame.pc) so s → Parted p s → Parted q s →
+      Makes so false s → Safe g x t k (join p q s m)
+  join_safe short p q s sp sq so hp hq hs f h to =
       on_partition_safe sp p (λ a. on_partition m q (λ b. on_region m s (λ r. makes r (either_sets (sets_of a) (sets_of b))
       either_flag m.frame.stack m))) hp (λ a ea ia.
-      on_partition_safe sp q (λ b. on_region m s (λ r. makes r (either_sets (sets_of a) (sets_of b))
+      on_partition_safe sq q (λ b. on_region m s (λ r. makes r (either_sets (sets_of a) (sets_of b))
       either_flag m.frame.stack m)) hq (λ b eb ib.
-      on_region_safe sp s (λ r. makes r (either_sets (sets_of a) (sets_of b)) either_flag m.frame.stack m) hs
+      on_region_safe so s (λ r. makes r (either_sets (sets_of a) (sets_of b)) either_flag m.frame.stack m) hs
       (λ c r er ir.
-      partition_safe short s sp false either_flag c r (either_sets (sets_of a) (sets_of b)) _ m.frame.stack er ir
+      partition_safe short s so false either_flag c r (either_sets (sets_of a) (sets_of b)) _ m.frame.stack er ir
       (λ e. e)
       (record {
         parts = either_parts r.points (sets_of a) (sets_of b) (parted_in sp hp.disjoint p s a r f ea er ia).1
-            (parted_in sp hq.disjoint q s b r h eb er ib).1;
+            (parted_in sq hq.disjoint q s b r h eb er ib).1;
         apart = λ e. absurd (false≢true e);
         few = omega (arith, each_long union_of (sets_of a) (sets_of b), sets_long a, ia.count);
       }) to fit.suits.stack)))

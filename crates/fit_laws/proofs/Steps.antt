@@ -299,12 +299,12 @@ module _ (g : Program) (x : World) (t : TaskCode) (k : ℕ) (m : Machine) (fit :
       equal_safe g x t k m fit short s line sp ss (same_stack (space ∷ ss) e) h to
   sound_safe short _ line (makes_by_field s f sp ss e h to) =
       by_field_safe g x t k m fit short s f line sp ss (same_stack (space ∷ ss) e) h to
-  sound_safe short _ line (makes_minus p q s sp hp hq hs f to) =
-      minus_safe g x t k m fit short p q s sp hp hq hs (fact_at (parted p s) f) to
-  sound_safe short _ line (makes_meet p q s sp hp hq hs f to) =
-      meet_safe g x t k m fit short p q s sp hp hq hs (fact_at (parted p s) f) to
-  sound_safe short _ line (makes_join p q s sp hp hq hs f h to) =
-      join_safe g x t k m fit short p q s sp hp hq hs (fact_at (parted p s) f)
+  sound_safe short _ line (makes_minus p q s sp sq so hp hq hs f to) =
+      minus_safe g x t k m fit short p q s sp sq so hp hq hs (fact_at (parted p s) f) to
+  sound_safe short _ line (makes_meet p q s sp sq so hp hq hs f to) =
+      meet_safe g x t k m fit short p q s sp sq so hp hq hs (fact_at (parted p s) f) to
+  sound_safe short _ line (makes_join p q s sp sq so hp hq hs f h to) =
+      join_safe g x t k m fit short p q s sp sq so hp hq hs (fact_at (parted p s) f)
       (fact_at (parted q s) h) to
   sound_safe short _ line (makes_image s p r f sp sq so hs hp h q to) =
       image_safe g x t k m fit short s p r f sp sq so hs hp h (fact_at (parted p r) q) to

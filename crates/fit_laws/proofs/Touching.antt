@@ -125,9 +125,9 @@ module _ (g : Program) (x : World) (t : TaskCode) (k : ℕ) where
     of_sound _ (makes_root sp i c ss e h l os oss to) = tt
     of_sound _ (makes_equal s sp ss e h to) = tt
     of_sound _ (makes_by_field s f sp ss e h to) = of_region sp f mode.Read s h
-    of_sound _ (makes_minus p q s sp hp hq hs f to) = tt
-    of_sound _ (makes_meet p q s sp hp hq hs f to) = tt
-    of_sound _ (makes_join p q s sp hp hq hs f h to) = tt
+    of_sound _ (makes_minus p q s sp sq so hp hq hs f to) = tt
+    of_sound _ (makes_meet p q s sp sq so hp hq hs f to) = tt
+    of_sound _ (makes_join p q s sp sq so hp hq hs f h to) = tt
     of_sound _ (makes_image s p r f sp sq so hs hp h q to) = of_region sp f mode.Read r h
     of_sound _ (makes_preimage s p r f sp sq so hs hp h q to) = of_region sp f mode.Read r h
     of_sound _ (makes_call task n callee args rest e p l tk o to) = tt

@@ -218,20 +218,20 @@ module _ (g : Program) (t : TaskCode) where
           Allowed (g.marks k pc) sp f mode.Read s →
           To (topped (g.marks k pc) (partition (Some sp) true ∷ ss) (top_parted s)) (suc pc) →
           Sound pc (instr.ByField s f)
-      makes_minus : (p q s : ℕ) (sp : Option ℕ) (hp : HasPartition (g.marks k pc) sp p) →
-          HasPartition (g.marks k pc) sp q → HasRegion (g.marks k pc) sp s →
+      makes_minus : (p q s : ℕ) (sp sq so : Option ℕ) (hp : HasPartition (g.marks k pc) sp p) →
+          HasPartition (g.marks k pc) sq q → HasRegion (g.marks k pc) so s →
           Among (g.marks k pc).facts (parted p s) →
-          To (topped (g.marks k pc) (partition sp hp.disjoint ∷ (g.marks k pc).stack) (top_parted s)) (suc pc) →
+          To (topped (g.marks k pc) (partition so hp.disjoint ∷ (g.marks k pc).stack) (top_parted s)) (suc pc) →
           Sound pc (instr.Minus p q s)
-      makes_meet : (p q s : ℕ) (sp : Option ℕ) (hp : HasPartition (g.marks k pc) sp p)
-          (hq : HasPartition (g.marks k pc) sp q) → HasRegion (g.marks k pc) sp s →
+      makes_meet : (p q s : ℕ) (sp sq so : Option ℕ) (hp : HasPartition (g.marks k pc) sp p)
+          (hq : HasPartition (g.marks k pc) sq q) → HasRegion (g.marks k pc) so s →
           Among (g.marks k pc).facts (parted p s) →
-          To (topped (g.marks k pc) (partition sp (hp.disjoint || hq.disjoint) ∷ (g.marks k pc).stack)
+          To (topped (g.marks k pc) (partition so (hp.disjoint || hq.disjoint) ∷ (g.marks k pc).stack)
           (top_parted s)) (suc pc) → Sound pc (instr.Meet p q s)
-      makes_join : (p q s : ℕ) (sp : Option ℕ) → HasPartition (g.marks k pc) sp p →
-          HasPartition (g.marks k pc) sp q → HasRegion (g.marks k pc) sp s →
+      makes_join : (p q s : ℕ) (sp sq so : Option ℕ) → HasPartition (g.marks k pc) sp p →
+          HasPartition (g.marks k pc) sq q → HasRegion (g.marks k pc) so s →
           Among (g.marks k pc).facts (parted p s) → Among (g.marks k pc).facts (parted q s) →
-          To (topped (g.marks k pc) (partition sp false ∷ (g.marks k pc).stack) (top_parted s)) (suc pc) →
+          To (topped (g.marks k pc) (partition so false ∷ (g.marks k pc).stack) (top_parted s)) (suc pc) →
           Sound pc (instr.Join p q s)
       -- of the region that is read the partition that is looked through is one, and within it lies the
       -- region whose preimage is made

@@ -1,14 +1,15 @@
--- Up from an operation by its callers, and down its way in the tree.
-use Rattle.std.proofs.Common.{◌≡◌, ◌<◌, ◌⊎◌, ◌++◌, ◌∷◌, ◌∙◌, ℕ, zero, suc, List, Option, Some, [], ap, eqb-true, inr, length, refl, subst, sym, true}
+-- Up from an operation by its callers, and down its way in the tree, to its children.
+use Rattle.std.proofs.Common.{◌≡◌, ◌<◌, ◌⊎◌, ◌++◌, ◌∷◌, ◌∙◌, ℕ, zero, suc, List, Option, Some, [], ap, arith, eqb-true, inr, length, refl, subst, sym, true}
 use Rattle.std.specs.Prelude.{All, nat_eq, slice_get}
+use Rattle.std.specs.List.{Contains}
 use Rattle.std.proofs.lemmas.Bool.{and_parts}
 use Rattle.std.proofs.lemmas.List.Elements.{All-append}
-use Rattle.std.proofs.lemmas.Option.{none-some}
+use Rattle.std.proofs.lemmas.Option.{none-some, same_Some}
 use Rattle.region_tree.specs.declared.tree.OpNumber.{OpNumber}
 use Rattle.region_tree.specs.declared.tree.RootId.{RootId}
 use Rattle.dependence_graph.specs.Knots.{number}
 use Rattle.task_code.specs.declared.job.Job.{Job}
-use Rattle.board_rules.specs.Apart.{begins, find, find_among}
+use Rattle.board_rules.specs.Apart.{begins, children_in, find, find_among}
 use Rattle.board_rules.specs.Boards.{Items, Operation as Node, child_op, no_item, op, said}
 use Rattle.board_rules.specs.Ground.{Ground}
 use Rattle.regent_boards.specs.RegentMachine.{regent_ground}
@@ -105,3 +106,60 @@ module _ (job : Job) (s : State) (who : ℕ → ℕ) (ways : List (List ℕ)) wh
           reached way (w ++ d ∷ []) y.0 k earlier roots n h.1 m (inr (j, h.0)) (subst (λ (z : OpNumber). Leads job s z.0 way k) (sym (some_same y (number x) e)) l)
       reached_among (suc c) way w j k d earlier roots (y ∷ ys) (child_op n is) x h m e l =
           reached_among c way w j k (suc d) (earlier ++ record { op = y.0; needs = needs_issued job n } ∷ []) roots ys is x h.2 m e l
+
+  -- ---- a child
+
+  -- one more place behind a way
+  mutual
+    pub find_behind : (w : List ℕ) (c : ℕ) (t a : Node G) → find G w t ≡ Some a → find G (w ++ c ∷ []) t ≡ find G (c ∷ []) a
+    find_behind [] c (op D N i f ps st is) a e = ap (find G (c ∷ [])) (same_Some (op D N i f ps st is) a e)
+    find_behind (x ∷ w) c (op D N i f ps st is) a e = find_behind_among x w c is a e
+
+    find_behind_among : (x : ℕ) (w : List ℕ) (c : ℕ) (is : Items G) (a : Node G) → find_among G x w is ≡ Some a → find_among G x (w ++ c ∷ []) is ≡ find G (c ∷ []) a
+    find_behind_among x w c no_item a e = absurd (none-some a e)
+    find_behind_among x w c (said t is) a e = find_behind_among x w c is a e
+    find_behind_among zero w c (child_op n is) a e = find_behind w c n a e
+    find_behind_among (suc x) w c (child_op n is) a e = find_behind_among x w c is a e
+
+  -- operation x is the child at a place, and shows
+  pub record ChildAt (j c x : ℕ) (roots : List RootId) (is : Items G) : Type 0 where
+    pub at : List ℕ
+    pub earlier : List Sibling
+    pub node : Node G
+    pub found : find_among G c [] is ≡ Some node
+    pub among : Contains (children_in G is) node
+    pub shows : Shows job s who ways at x earlier roots node
+    pub child : IsChild job s who ways j x roots (needs_issued job node)
+
+  whole : (n : Node G) → find G [] n ≡ Some n
+  whole (op D N i f ps st is) = refl
+
+  further : (n y : Node G) (is : Items G) → Contains (children_in G is) y → Contains (n ∷ children_in G is) y
+  further n y is c = let l = c.1 in (suc c.0, omega (arith, l), c.2)
+
+  pub child_at : (c : ℕ) (w : List ℕ) (j d : ℕ) (earlier : List Sibling) (roots : List RootId) (ks : List OpNumber) (is : Items G) (x : ℕ) → ShowsChildren job s who ways w j d earlier roots ks is →
+      slice_get ks c ≡ Some (number x) → ChildAt j c x roots is
+  child_at c w j d earlier roots ks no_item x h e = absurd (none-some (number x) (ap (λ ks. slice_get ks c) (sym h) ∙ e))
+  child_at c w j d earlier roots ks (said t is) x h e =
+      let r = child_at c w j d earlier roots ks is x h e in
+      record { at = r.at; earlier = r.earlier; node = r.node; found = r.found; among = r.among; shows = r.shows; child = r.child }
+  child_at c w j d earlier roots [] (child_op n is) x h e = absurd h
+  child_at zero w j d earlier roots (k ∷ ks) (child_op n is) x h e =
+      let same : k.0 ≡ x = ap (λ (o : OpNumber). o.0) (some_same k (number x) e) in
+      record {
+        at = w ++ d ∷ [];
+        earlier = earlier;
+        node = n;
+        found = whole n;
+        among = (zero, omega arith, refl);
+        shows = subst (λ y. Shows job s who ways (w ++ d ∷ []) y earlier roots n) same h.1;
+        child = subst (λ y. IsChild job s who ways j y roots (needs_issued job n)) same h.0;
+      }
+  child_at (suc c) w j d earlier roots (k ∷ ks) (child_op n is) x h e =
+      let r = child_at c w j (suc d) (earlier ++ record { op = k.0; needs = needs_issued job n } ∷ []) roots ks is x h.2 e in
+      record { at = r.at; earlier = r.earlier; node = r.node; found = r.found; among = further n r.node is r.among; shows = r.shows; child = r.child }
+
+  pub place_of : (ks : List OpNumber) (k : OpNumber) → Contains ks k → (c : ℕ) × (slice_get ks c ≡ Some k)
+  place_of [] k h = absurd (omega (arith, h.1))
+  place_of (x ∷ ks) k (zero, l, e) = (zero, ap Some e)
+  place_of (x ∷ ks) k (suc c, l, e) = let r = place_of ks k (c, omega (arith, l), e) in (suc r.0, r.1)

@@ -1,35 +1,50 @@
--- A journal leads to a state that shows a board, or to that of a void job, in which nothing is in progress.
-use Rattle.std.proofs.Common.{◌≡◌, ◌⊎◌, ◌∷◌, ◌∙◌, ⊎_elim, ℕ, zero, suc, Bool, List, None, Option, Some, [], ap, cond, false, inl, inr, refl, subst, sym, true}
+-- A journal leads to a state that shows a board, or to that of a void job, in which all is over.
+use Rattle.std.proofs.Common.{Bool, List, None, Option, Some, [], ap, arith, cond, false, inl, inr, refl, subst, suc, sym, true, zero, ℕ, ⊎_elim, ◌++◌, ◌∙◌, ◌∷◌, ◌≡◌, ◌⊎◌}
 use Rattle.std.specs.Prelude.{slice_get}
+use Rattle.std.specs.List.{Contains}
 use Rattle.std.proofs.lemmas.Bool.{false≢true}
 use Rattle.std.proofs.lemmas.Option.{none-some, same_Some}
+use Rattle.logical_map.specs.Fills.{Filling}
+use Rattle.region_tree.specs.declared.tree.OpNumber.{OpNumber}
+use Rattle.dependence_graph.specs.Knots.{number}
+use Rattle.regent_tree.specs.declared.outcome.Outcome.{Outcome}
 use Rattle.task_code.specs.declared.code.TaskCode.{TaskCode}
 use Rattle.task_code.specs.declared.job.Job.{Job}
 use Rattle.machine_terms.specs.Jobs.{first_frame, may_start}
 use Rattle.run_journal.specs.declared.entry.Entry.{Entry}
 use Rattle.run_journal.specs.declared.entry.StepKind.{StepKind}
 use Rattle.run_journal.specs.declared.entry.StepKind.TheVariants.{Back, Claim, Copy, Give}
-use Rattle.board_rules.specs.NumberedBoards.{start}
+use Rattle.board_rules.specs.NumberedBoards.{Board, start}
 use Rattle.regent_boards.specs.RegentMachine.{regent_ground}
 use Rattle.code_boards.specs.Laws.{machine_of, main_of}
 use Rattle.code_boards.specs.Views.{spaces_of}
+use Rattle.board_terms.specs.declared.claim.Claim.{Claim as FillClaim}
+use Rattle.board_terms.specs.declared.operation.Activity.TheVariants as activity
+use Rattle.board_terms.specs.Claims.{taken_back}
+use Rattle.board_terms.specs.Outcomes.{outcome, result}
 use Rattle.board_terms.specs.Replays.{replay, replay_from, step_of}
-use Rattle.board_terms.specs.Stages.{is_in_progress, stage_at}
-use Rattle.board_terms.specs.States.{State, opened_with, void_state, with_main}
+use Rattle.board_terms.specs.Stages.{has_finished, is_over, may_be_claimed, stage_at}
+use Rattle.board_terms.specs.States.{State, opened, opened_with, operation_at, void_state, with_main}
 use Rattle.board_trees.specs.Shows.{ShowsBoard}
 use Rattle.board_trees.proofs.Beginning.{new_boards_show}
 use Rattle.journal_results.proofs.Journals.{Pictured, gives_show, pictured}
-use Rattle.progress_boards.proofs.Jobs.{jobs_in_progress_apart, jobs_issued_needed}
-use Rattle.journal_progress.specs.Laws.{InProgressAreListed, NoneInProgressInterfere}
-use Rattle.journal_progress.proofs.Progress.{is_listed, none_interfere}
+use Rattle.progress_boards.proofs.Jobs.{jobs_filled_from_map, jobs_held_apart, jobs_in_progress_apart, jobs_issued_needed, jobs_some_ready}
+use Rattle.journal_progress.specs.Claims.{IsAsBefore, SomeMayBeClaimed, TakenBackAsBefore, claimed_by}
+use Rattle.journal_progress.specs.Laws.{NoneInProgressInterfere, UnfinishedAreListed}
+use Rattle.journal_progress.specs.Parts.{MovedFromMap, HeldPartsAreApart}
+use Rattle.journal_progress.proofs.Backs.{as_before, back_goes, is_claimed, replay_both, was_ready}
+use Rattle.journal_progress.proofs.Ended.{ended_hold_none}
+use Rattle.journal_progress.proofs.Filled.{filled_from_map}
+use Rattle.journal_progress.proofs.Parts.{held_apart}
+use Rattle.journal_progress.proofs.Places.{is_listed}
+use Rattle.journal_progress.proofs.Progress.{none_interfere, not_over}
+use Rattle.journal_progress.proofs.Ready.{some_ready}
+use Rattle.journal_progress.proofs.Waited.{goes_on, idles, stands_parked, within}
 
 module _ (job : Job) where
-  abbrev NoneGoes : State → Type 0
-  NoneGoes s = (k : ℕ) → is_in_progress (stage_at s k) ≡ true → ⊥
-
-  -- it shows a board to which steps lead, or nothing is in progress
+  -- it shows a board to which steps lead, or is that of a void job
   abbrev IsPictured : State → Type 0
-  IsPictured s = ((t : TaskCode) × Pictured gives_show job t s) ⊎ NoneGoes s
+  IsPictured s = ((t : TaskCode) × Pictured gives_show job t s) ⊎ (void_state ≡ s)
 
   -- ---- void jobs
 
@@ -47,12 +62,8 @@ module _ (job : Job) where
   void_refuses Back zero seat = refl
   void_refuses Back (suc k) seat = refl
 
-  none_in_void : NoneGoes void_state
-  none_in_void zero e = false≢true e
-  none_in_void (suc k) e = false≢true e
-
   void_pictured : (es : List Entry) (s : State) → replay_from job (Some void_state) es ≡ Some s → IsPictured s
-  void_pictured [] s e = inr (subst NoneGoes (same_Some void_state s e) none_in_void)
+  void_pictured [] s e = inr (same_Some void_state s e)
   void_pictured (x ∷ es) s e =
       absurd (none-some s (sym (no_replay es) ∙ ap (λ o. replay_from job o es) (sym (void_refuses x.kind x.op.0 x.seat)) ∙ e))
 
@@ -81,10 +92,74 @@ module _ (job : Job) where
   is_pictured : (journal : List Entry) (s : State) → replay job journal ≡ Some s → IsPictured s
   is_pictured journal s e = by_start journal s (slice_get job.code.tasks job.code.start) refl e
 
-pub in_progress_are_listed : InProgressAreListed
-in_progress_are_listed job journal s e k goes = ⊎_elim (λ p. is_listed job s p.1.board p.1.shows k goes) (λ none. absurd (none k goes)) (is_pictured job journal s e)
+-- ---- in the state of a void job all is over
+
+void_over : (k : ℕ) → is_over (stage_at void_state k) ≡ false → ⊥
+void_over zero e = false≢true (sym e)
+void_over (suc k) e = false≢true (sym e)
+
+void_children : (k : ℕ) (o : OpNumber) → Contains (operation_at void_state k).children o → ⊥
+void_children zero o c = omega (arith, c.1)
+void_children (suc k) o c = omega (arith, c.1)
+
+void_ready : (k : ℕ) → may_be_claimed void_state k ≡ true → ⊥
+void_ready zero e = false≢true e
+void_ready (suc k) e = false≢true e
+
+void_fills : (k : ℕ) (c : FillClaim) (f : Filling) → (operation_at void_state k).activity ≡ activity.Filling c (Some f) → ⊥
+void_fills zero c f e = cc
+void_fills (suc k) c f e = cc
+
+-- ---- the laws
+
+pub unfinished_are_listed : UnfinishedAreListed
+unfinished_are_listed job journal s e k still = ⊎_elim (λ p. is_listed job s p.1.board p.1.shows k still)
+    (λ q. absurd (void_over k (ap (λ x. is_over (stage_at x k)) q ∙ still))) (is_pictured job journal s e)
 
 pub none_in_progress_interfere : NoneInProgressInterfere
 none_in_progress_interfere job journal s e x y c d ex ey xy yx = ⊎_elim
     (λ p. none_interfere job s p.1.board p.1.shows (jobs_in_progress_apart job p.0 p.1.steps p.1.board p.1.made) (jobs_issued_needed job p.0 p.1.steps p.1.board p.1.made) x y c d ex ey xy yx)
-    (λ none. absurd (none x.op.0 ex)) (is_pictured job journal s e)
+    (λ q. absurd (void_over x.op.0 (ap (λ z. is_over (stage_at z x.op.0)) q ∙ not_over (stage_at s x.op.0) ex))) (is_pictured job journal s e)
+
+unfinished : (c : Bool) (o : Outcome) → cond c (Some o) None ≡ None → c ≡ false
+unfinished true o e = absurd (none-some o (sym e))
+unfinished false o e = refl
+
+pub some_may_be_claimed : SomeMayBeClaimed
+some_may_be_claimed job journal s e none idle = ⊎_elim
+    (λ p. some_ready job s p.1.board p.1.shows idle (jobs_some_ready job p.0 p.1.steps p.1.board p.1.made) (unfinished (has_finished s) (outcome s) none))
+    (λ q. absurd (none-some (outcome void_state) (sym (ap result q ∙ none)))) (is_pictured job journal s e)
+
+pub taken_back_as_before : TakenBackAsBefore
+taken_back_as_before job journal s t k seat n e f = ⊎_elim (λ p. by_board p.1.board p.1.shows) (λ q. absurd (void_ready k (ap (λ x. may_be_claimed x k) q ∙ ready))) (is_pictured job journal s e)
+  where
+    back : Entry
+    back = record { kind = Back; op = number k; seat = seat }
+
+    leads : replay_from job (Some s) (claimed_by k seat n) ≡ Some t
+    leads = ap (λ o. replay_from job o (claimed_by k seat n)) (sym e) ∙ sym (replay_both job journal (claimed_by k seat n) (Some (opened job))) ∙ f
+
+    ready : may_be_claimed s k ≡ true
+    ready = was_ready job s k seat n t leads
+
+    by_board : (b : Board (regent_ground (spaces_of job.code))) → ShowsBoard job s b → (u : State) × (replay job (journal ++ claimed_by k seat n ++ back ∷ []) ≡ Some u) × IsAsBefore k s u
+    by_board b h =
+        let inside = within job s b h k seat ready in
+        let claim = is_claimed job s k seat inside n t ready leads in (
+          taken_back t k,
+          replay_both job (journal ++ claimed_by k seat n) (back ∷ []) (Some (opened job))
+              ∙ ap (λ o. replay_from job o (back ∷ [])) f
+              ∙ back_goes job s k seat inside t claim,
+          as_before job s k seat inside (idles job s b h k seat ready) (goes_on job s b h k seat ready) (stands_parked job s b h k seat ready) ready t claim,
+        )
+
+pub held_parts_are_apart : HeldPartsAreApart
+held_parts_are_apart job journal s e k goes x listed child still = ⊎_elim
+    (λ p. held_apart job s p.1.board p.1.shows (jobs_held_apart job p.0 p.1.steps p.1.board p.1.made) (jobs_issued_needed job p.0 p.1.steps p.1.board p.1.made)
+    k (ended_hold_none job journal s e k) goes x listed child still)
+    (λ q. absurd (void_children k x.op (subst (λ z. Contains (operation_at z k).children x.op) (sym q) child))) (is_pictured job journal s e)
+
+pub moved_from_map : MovedFromMap
+moved_from_map job journal s e k claim fill does = ⊎_elim
+    (λ p. filled_from_map job s p.1.board p.1.shows (jobs_filled_from_map job p.0 p.1.steps p.1.board p.1.made) k claim fill does)
+    (λ q. absurd (void_fills k claim fill (ap (λ z. (operation_at z k).activity) q ∙ does))) (is_pictured job journal s e)

@@ -1,5 +1,13 @@
 mod Needs
 mod Listings
 mod Callers
+mod Places
 mod Progress
+mod Backs
+mod Ended
+mod Pieces
+mod Parts
+mod Filled
+mod Ready
+mod Waited
 mod Journals

@@ -8,7 +8,7 @@ use Rattle.dependence_graph.specs.Knots.{number}
 use Rattle.task_code.specs.declared.job.Job.{Job}
 use Rattle.run_journal.specs.declared.entry.Entry.{Entry}
 use Rattle.board_terms.specs.Replays.{replay}
-use Rattle.board_terms.specs.Stages.{is_in_progress, stage_at}
+use Rattle.board_terms.specs.Stages.{is_in_progress, is_over, stage_at}
 use Rattle.board_terms.specs.States.{State, operation_at}
 
 -- an operation's caller, and the caller's caller, so many up; main is its own caller
@@ -20,11 +20,11 @@ caller_up s (suc n) k = (operation_at s (caller_up s n k)).parent.0
 abbrev pub IsAbove : State → ℕ → ℕ → Type 0
 IsAbove s j k = (n : ℕ) × (caller_up s n k ≡ j)
 
--- Of every job, compiled or not, void or not, whatever steps the seats of its board make: the graph lists each operation in
--- progress but main.
-abbrev pub InProgressAreListed : Type 0
-InProgressAreListed = (job : Job) (journal : List Entry) (s : State) → replay job journal ≡ Some s →
-    (k : ℕ) → is_in_progress (stage_at s k) ≡ true → (k ≡ 0) ⊎ ((x : Listed) × Contains s.waits.listing x × (x.op ≡ number k))
+-- Of every job, compiled or not, void or not, whatever steps the seats of its board make: the graph lists each operation
+-- that isn't over, but main.
+abbrev pub UnfinishedAreListed : Type 0
+UnfinishedAreListed = (job : Job) (journal : List Entry) (s : State) → replay job journal ≡ Some s →
+    (k : ℕ) → is_over (stage_at s k) ≡ false → (k ≡ 0) ⊎ ((x : Listed) × Contains s.waits.listing x × (x.op ≡ number k))
 
 -- So of every job, too: two operations in progress, neither the other's ancestor, don't interfere by the needs with which
 -- they were issued, which the graph lists.

@@ -66,6 +66,12 @@ abbrev pub is_region_name : Marked → Expression → Bool
 is_region_name m (access_expr n no_step) = is_among m.regions n
 is_region_name m e = false
 
+-- what a loop takes pointers of: a region's name, or a part of a partition that has one
+abbrev pub gives_points : Marked → Expression → Bool
+gives_points m (access_expr n no_step) = is_among m.regions n
+gives_points m (access_expr n (at_step e no_step)) = is_among m.partitions n
+gives_points m e = false
+
 -- whether an expression may give a pointer: a name that may stand for one, an element, a field that may hold one, null or
 -- what is cast, which may be all of a chain
 abbrev pub gives_pointer : Marked → Expression → Bool
@@ -128,8 +134,7 @@ takes_value m n = (m.keeps || not (is_among m.indices n)) && not (is_kept_apart 
 
 -- Numbers and truths, indices, index spaces and pointers, calls, elements of regions that have names and fields at points
 -- of these, fields that a name's pointer goes to, null, casts, and the colours of partitions. A region itself stands in an argument
--- alone, or is what a loop goes over, a part of a partition stands in an argument alone, and a prefix stands before numbers
--- and truths.
+-- alone, or is what a loop goes over; so does a part of a partition; and a prefix stands before numbers and truths.
 abbrev mutual
   pub is_local_expression : Marked → Expression → Bool
   is_local_expression m (number_expr z w) = true

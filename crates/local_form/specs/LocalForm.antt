@@ -12,7 +12,7 @@ use Rattle.regent_tree.specs.declared.types.Param.{Param}
 use Rattle.regent_tree.specs.declared.types.TypeTerm.{TypeTerm}
 use Rattle.regent_tree.specs.declared.types.TypeTerm.TheVariants as term
 use Rattle.scalar_form.specs.ScalarForm.{is_scalar_if_said, is_scalar_term}
-pub use Rattle.local_form.specs.Expressions.{Marked, are_local_arguments, are_local_expressions, are_local_links, converts_to, gives_pointer, gives_scalar, goes_to_name, goes_to_names, is_among, is_difference, is_kept_apart, is_kept_field, is_local_expression, is_name, is_part, is_partition_name, is_pointing, is_region_name, links_give, takes_element, takes_partition_off, takes_value}
+pub use Rattle.local_form.specs.Expressions.{Marked, are_local_arguments, are_local_expressions, are_local_links, converts_to, gives_pointer, gives_points, gives_scalar, goes_to_name, goes_to_names, is_among, is_difference, is_kept_apart, is_kept_field, is_local_expression, is_name, is_part, is_partition_name, is_pointing, is_region_name, links_give, takes_element, takes_partition_off, takes_value}
 pub use Rattle.local_form.specs.Marks.{is_index_or_space, is_index_term, is_partition_term, is_pointer_term, is_region_term, is_space_term, marked_by, marked_by_arms, marked_by_else, marked_by_item, marked_by_items, marked_by_task, marked_by_term, marked_by_value, marked_field, marked_fields, marked_in, marked_param, marked_params, unmarked, with_either, with_index, with_index_field, with_partition, with_pointer, with_pointer_field, with_region}
 
 -- ---- statements
@@ -27,9 +27,9 @@ is_kept_term m n (term.Number (number.Index k)) = m.keeps && is_among m.indices 
 is_kept_term m n (term.Pointer p) = goes_to_names m p.regions && (is_among m.indices n && is_among m.pointers n)
 is_kept_term m n t = is_scalar_term t
 
--- a loop goes over a region that has a name, and takes pointers, or over an index space
+-- a loop goes over a region that has a name, or a part of a partition that has one, and takes pointers, or over an index space
 abbrev pub is_local_domain : Marked → Name → Expression → Bool
-is_local_domain m n domain = (is_region_name m domain && is_among m.pointers n) || is_local_expression m domain
+is_local_domain m n domain = ((is_region_name m domain || is_part m domain) && is_among m.pointers n) || is_local_expression m domain
 
 -- whether what is filled in may be a pointer only where no field holds indices
 abbrev pub fills_apart : Marked → List Name → Expression → Bool

@@ -6,7 +6,7 @@ use Rattle.regent_tree.specs.declared.types.NumberTerm.TheVariants as number
 use Rattle.regent_tree.specs.declared.types.Param.{Param}
 use Rattle.regent_tree.specs.declared.types.TypeTerm.{TypeTerm}
 use Rattle.regent_tree.specs.declared.types.TypeTerm.TheVariants as term
-use Rattle.local_form.specs.Expressions.{Marked, gives_pointer, gives_scalar, is_difference, is_region_name}
+use Rattle.local_form.specs.Expressions.{Marked, gives_pointer, gives_points, gives_scalar, is_difference}
 
 -- ---- names that are marked
 
@@ -59,7 +59,7 @@ abbrev mutual
   marked_by (var_form n None (Some (either_initializer p q))) m = with_partition n m
   marked_by (if_form arms other) m = marked_by_else other (marked_by_arms arms m)
   marked_by (while_form test body) m = marked_in body m
-  marked_by (for_in_form demanded n domain body) m = marked_in body (with_either (is_region_name m domain) n m)
+  marked_by (for_in_form demanded n domain body) m = marked_in body (with_either (gives_points m domain) n m)
   marked_by (for_to_form demanded n from to body) m = marked_in body m
   marked_by (do_form body) m = marked_in body m
   marked_by form m = m

@@ -7,7 +7,7 @@ use Rattle.regent_tree.specs.Plain.{expression_of}
 use Rattle.regent_tree.specs.PlainProgram.{block_in}
 use Rattle.regent_tree.specs.Syntax.{Expression, Name, Steps, at_step, field_step, no_step}
 use Rattle.local_form.specs.LocalForm.{fills_apart, is_local_block}
-use Rattle.local_form.specs.Expressions.{Marked, is_among, is_kept_apart, is_local_expression, is_name, is_part, is_region_name, takes_element, takes_value}
+use Rattle.local_form.specs.Expressions.{Marked, gives_points, is_among, is_kept_apart, is_local_expression, is_name, is_part, takes_element, takes_value}
 use Rattle.local_form.specs.Marks.{with_either}
 
 abbrev pub is_local_arm : Marked → Arm → Bool
@@ -19,7 +19,7 @@ is_local_argument m e = is_name e || (is_part m e || is_local_expression m e)
 
 -- what a loop takes
 abbrev pub marked_by_loop : Name → Expression → Marked → Marked
-marked_by_loop n domain m = with_either (is_region_name m domain) n m
+marked_by_loop n domain m = with_either (gives_points m domain) n m
 
 -- with what fields are filled
 abbrev pub is_local_filling : Marked → List Name → Expression → Bool

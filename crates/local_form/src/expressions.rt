@@ -3,7 +3,7 @@
 ghost use Rattle.std.specs.Prelude.{◌≡◌};
 ghost use Rattle.regent_tree.specs.Plain.{expression_of, expressions_in, links_in, steps_in};
 ghost use Rattle.regent_tree.specs.Syntax.{access_expr};
-ghost use Rattle.local_form.specs.Expressions.{are_local_arguments, are_local_expressions};
+ghost use Rattle.local_form.specs.Expressions.{are_local_arguments, are_local_expressions, gives_points};
 ghost use Rattle.local_form.specs.Expressions.{are_local_links, is_local_expression, is_name, is_part, is_region_name};
 ghost use Rattle.local_form.specs.Seen.{is_behind, is_behind_read, is_beside, is_local_argument};
 
@@ -124,6 +124,28 @@ pub fn is_region_name(marked: &Marked<'_>, e: &Expr) -> bool
     }
 }
 
+/// Whether an access is a region's name alone, or takes an element of a partition's name.
+fn names_points(marked: &Marked<'_>, name: &Name, steps: &[Step]) -> bool
+    ensures { result ≡ gives_points marked.now (access_expr name.now (steps_in steps.now)) }
+{
+    match steps {
+        [] => marked.is_region(name),
+        [Step::At(_)] => marked.is_partition(name),
+        [Step::At(_), Step::At(_), ..] | [Step::At(_), Step::Field(_), ..] => false,
+        [Step::Field(_), ..] => false,
+    }
+}
+
+/// Whether a loop over what an expression stands for takes pointers: over a region's name, or a part of a partition.
+pub fn gives_points(marked: &Marked<'_>, e: &Expr) -> bool
+    ensures { result ≡ gives_points marked.now (expression_of e.now) }
+{
+    match e {
+        Expr::Access { name, steps } => names_points(marked, name, steps.as_slice()),
+        _ => false,
+    }
+}
+
 /// Whether an access is a part of a partition.
 #[cycle(expression)]
 fn names_part(marked: &Marked<'_>, name: &Name, steps: &[Step]) -> bool
@@ -137,7 +159,7 @@ fn names_part(marked: &Marked<'_>, name: &Name, steps: &[Step]) -> bool
 
 /// Whether an expression is a part of a partition that has a name.
 #[cycle(expression)]
-fn is_part(marked: &Marked<'_>, e: &Expr) -> bool
+pub fn is_part(marked: &Marked<'_>, e: &Expr) -> bool
     ensures { result ≡ is_part marked.now (expression_of e.now) }
 {
     match e {

@@ -9,7 +9,7 @@ ghost use Rattle.local_form.specs.Marks.{marked_by, marked_by_arms, marked_by_te
 ghost use Rattle.local_form.specs.Seen.{marked_by_loop};
 
 use crate::differences::is_difference;
-use crate::expressions::is_region_name;
+use crate::expressions::gives_points;
 use crate::giving::{gives_pointer, gives_scalar};
 use crate::marked::Marked;
 use regent_tree::{Arm, Expr, Init, Name, NumberTerm, Stmt, TypeTerm, What};
@@ -35,7 +35,7 @@ fn mark_loop<'t>(marked: &mut Marked<'t>, name: &'t Name, domain: &Expr) -> Resu
     ensures { OnOk result
         (marked.new ≡ marked_by_loop name.now (expression_of domain.now) marked.old) }
 {
-    marked.add_either(is_region_name(marked, domain), name)
+    marked.add_either(gives_points(marked, domain), name)
 }
 
 /// Marks a variable of a written type, where this is an index's or a pointer's.

@@ -13,7 +13,8 @@ ghost use Rattle.local_form.specs.Seen.{assigns_beside, is_local_arm, is_local_f
 
 use crate::differences::is_difference;
 use crate::expressions::{
-    are_local_arguments, are_local_expressions, is_behind, is_local_expression, is_region_name,
+    are_local_arguments, are_local_expressions, is_behind, is_local_expression, is_part,
+    is_region_name,
 };
 use crate::giving::{gives_pointer, gives_scalar, is_pointing};
 use crate::marked::Marked;
@@ -27,11 +28,11 @@ fn keeps_pointer(marked: &Marked<'_>, name: &Name, value: &Expr) -> bool
     !gives_pointer(marked, value) || (is_pointing(value) && marked.is_pointer(name))
 }
 
-/// Whether a loop goes over a region that has a name, where it takes pointers, or over an index space.
+/// Whether a loop goes over a region that has a name, or over a part, where it takes pointers, or over an index space.
 fn is_local_domain(marked: &Marked<'_>, name: &Name, domain: &Expr) -> bool
     ensures { result ≡ is_local_domain marked.now name.now (expression_of domain.now) }
 {
-    (is_region_name(marked, domain) && marked.is_pointer(name))
+    ((is_region_name(marked, domain) || is_part(marked, domain)) && marked.is_pointer(name))
         || is_local_expression(marked, domain)
 }
 

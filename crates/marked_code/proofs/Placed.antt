@@ -1,6 +1,6 @@
 -- Each line of a piece that has marks is sound, where the piece stands and the marks are those of its
 -- places.
-use Rattle.std.proofs.Common.{◌≡◌, ◌⊎◌, inl, inr, ⊎_elim, ℕ, zero, suc, ◌<◌, ◌≤◌, List, [], ◌∷◌, ◌++◌, Bool, true, false, Some, refl, sym, ap, ◌∙◌, subst, arith}
+use Rattle.std.proofs.Common.{◌≡◌, ◌⊎◌, inl, inr, ⊎_elim, ℕ, zero, suc, ◌<◌, ◌≤◌, List, [], ◌∷◌, ◌++◌, Bool, true, false, ◌||◌, Some, refl, sym, ap, ◌∙◌, subst, arith}
 use Rattle.std.specs.Prelude.{slice_get, length, nat_lt}
 use Rattle.std.proofs.lemmas.Bool.{lt-ltb}
 use Rattle.std.proofs.lemmas.Option.{same_Some}
@@ -13,12 +13,13 @@ use Rattle.machine_terms.specs.Jumps.{fetch, may_jump, goes_back}
 use Rattle.code_rules.specs.Pieces.{Piece, past, line_of}
 use Rattle.code_laws.specs.Standing.{Stands}
 use Rattle.code_laws.proofs.Values.{past_later}
-use Rattle.fit_rules.specs.Shapes.{Among, Each, truth, space, region, awaited, own_as}
-use Rattle.fit_rules.specs.Marks.{ColoursStand, counts, Mark, Suits, Into, stacked, the_colour, top_colour, topped}
+use Rattle.lane_kernels.specs.declared.numbers.Mode.TheVariants as mode
+use Rattle.fit_rules.specs.Shapes.{Among, Each, truth, space, region, partition, awaited, own_as}
+use Rattle.fit_rules.specs.Marks.{ColoursStand, counts, in_slot, lies, Mark, parted, Suits, Into, stacked, the_colour, top_colour, top_parted, topped}
 use Rattle.fit_rules.specs.Fits.{Program}
-use Rattle.fit_rules.specs.Sound.{Effect, Opens, RoundNumber, RoundPoint, Takes, To, ToStored, Sound, straight, stored, jumps, jumps_if_not, jumps_and, jumps_or, counts_numbers, counts_points, takes_turn, returns, returns_value, colours, awaits, makes_root, makes_call, IsOther}
+use Rattle.fit_rules.specs.Sound.{Effect, Opens, RoundNumber, RoundPoint, Takes, To, ToStored, Sound, straight, stored, jumps, jumps_if_not, jumps_and, jumps_or, counts_numbers, counts_points, takes_turn, returns, returns_value, colours, awaits, makes_root, makes_call, makes_equal, makes_by_field, makes_minus, makes_meet, makes_join, makes_image, makes_preimage, IsOther, Allowed, HasPartition, HasRegion}
 use Rattle.marked_code.specs.Bodies.{MarksAt}
-use Rattle.marked_code.specs.Marked.{Leads, leads_on, leads_storing, leads_nowhere, leads_back, leads_coloured, leads_calling, leads_waiting, leads_making, Typed, typed_empty, typed_op, typed_both, typed_into, typed_from, typed_and, typed_or, typed_if, typed_branch, typed_loop, typed_rounds, typed_points}
+use Rattle.marked_code.specs.Marked.{Leads, leads_on, leads_storing, leads_nowhere, leads_back, leads_coloured, leads_calling, leads_waiting, leads_making, leads_cutting, leads_colouring, leads_minus, leads_meet, leads_join, leads_image, leads_preimage, Typed, typed_empty, typed_op, typed_both, typed_into, typed_from, typed_and, typed_or, typed_if, typed_branch, typed_loop, typed_rounds, typed_points}
 
 -- a number is below another one or not
 pub below : (a b : ℕ) → (a < b) ⊎ (b ≤ a)
@@ -93,6 +94,13 @@ module _ (g : Program) (t : TaskCode) (k : ℕ) where
   led_long _ _ _ (leads_calling m task n callee args rest e p b tk o) = refl
   led_long _ _ _ (leads_waiting m i s e n h) = refl
   led_long _ _ _ (leads_making m sp i c ss e q l os oss) = refl
+  led_long _ _ _ (leads_cutting m s sp ss e h) = refl
+  led_long _ _ _ (leads_colouring m s f sp ss e h) = refl
+  led_long _ _ _ (leads_minus m p q s sp sq so d hp hq hs f) = refl
+  led_long _ _ _ (leads_meet m p q s sp sq so d e hp hq hs f) = refl
+  led_long _ _ _ (leads_join m p q s sp sq so hp hq hs f h) = refl
+  led_long _ _ _ (leads_image m s p r f sp sq so hs hp h k) = refl
+  led_long _ _ _ (leads_preimage m s p r f sp sq so d hs hp h k) = refl
 
   pub long_marks : (c : ℕ) (m : Mark) (p : Piece) (ms : List Mark) (n : Mark) → Typed g t k m p ms n →
       length m.slots ≡ c → Long c ms n
@@ -226,6 +234,34 @@ module _ (g : Program) (t : TaskCode) (k : ℕ) where
   led _ _ _ pc e (leads_making m sp i c ss es there l os oss) to = makes_root sp i c ss
       (at_mark pc m e (λ y. y.stack ≡ space ∷ ss) es) there l (at_mark pc m e (λ y. Each (IsOther i) y.slots) os) oss
       (at_mark pc m e (λ y. To g t k (stacked y (region (Some sp) (own_as i) ∷ ss)) (suc pc)) to)
+  led _ _ _ pc e (leads_cutting m s sp ss es h) to = makes_equal s sp ss
+      (at_mark pc m e (λ y. y.stack ≡ space ∷ ss) es) (at_mark pc m e (λ y. HasRegion y sp s) h)
+      (at_mark pc m e (λ y. To g t k (topped y (partition sp true ∷ ss) (top_parted s)) (suc pc)) to)
+  led _ _ _ pc e (leads_colouring m s f sp ss es h) to = makes_by_field s f sp ss
+      (at_mark pc m e (λ y. y.stack ≡ space ∷ ss) es) (at_mark pc m e (λ y. Allowed g t y sp f mode.Read s) h)
+      (at_mark pc m e (λ y. To g t k (topped y (partition (Some sp) true ∷ ss) (top_parted s)) (suc pc)) to)
+  led _ _ _ pc e (leads_minus m p q s sp sq so d hp hq hs f) to = makes_minus p q s sp sq so
+      (record { disjoint = d; shape = at_mark pc m e (λ y. slice_get y.slots p ≡ Some (partition sp d)) hp })
+      (at_mark pc m e (λ y. HasPartition y sq q) hq) (at_mark pc m e (λ y. HasRegion y so s) hs)
+      (at_mark pc m e (λ y. Among y.facts (parted p s)) f)
+      (at_mark pc m e (λ y. To g t k (topped y (partition so d ∷ y.stack) (top_parted s)) (suc pc)) to)
+  led _ _ _ pc e (leads_meet m p q s sp sq so d b hp hq hs f) to = makes_meet p q s sp sq so
+      (record { disjoint = d; shape = at_mark pc m e (λ y. slice_get y.slots p ≡ Some (partition sp d)) hp })
+      (record { disjoint = b; shape = at_mark pc m e (λ y. slice_get y.slots q ≡ Some (partition sq b)) hq })
+      (at_mark pc m e (λ y. HasRegion y so s) hs) (at_mark pc m e (λ y. Among y.facts (parted p s)) f)
+      (at_mark pc m e (λ y. To g t k (topped y (partition so (d || b) ∷ y.stack) (top_parted s)) (suc pc)) to)
+  led _ _ _ pc e (leads_join m p q s sp sq so hp hq hs f h) to = makes_join p q s sp sq so (at_mark pc m e (λ y. HasPartition y sp p) hp)
+      (at_mark pc m e (λ y. HasPartition y sq q) hq) (at_mark pc m e (λ y. HasRegion y so s) hs)
+      (at_mark pc m e (λ y. Among y.facts (parted p s)) f) (at_mark pc m e (λ y. Among y.facts (parted q s)) h)
+      (at_mark pc m e (λ y. To g t k (topped y (partition so false ∷ y.stack) (top_parted s)) (suc pc)) to)
+  led _ _ _ pc e (leads_image m s p r f sp sq so hs hp h i) to = makes_image s p r f sp sq so (at_mark pc m e (λ y. HasRegion y so s) hs)
+      (at_mark pc m e (λ y. HasPartition y sq p) hp) (at_mark pc m e (λ y. Allowed g t y sp f mode.Read r) h)
+      (at_mark pc m e (λ y. Among y.facts (parted p r)) i)
+      (at_mark pc m e (λ y. To g t k (topped y (partition so false ∷ y.stack) (top_parted s)) (suc pc)) to)
+  led _ _ _ pc e (leads_preimage m s p r f sp sq so d hs hp h i) to = makes_preimage s p r f sp sq so (at_mark pc m e (λ y. HasRegion y so s) hs)
+      (record { disjoint = d; shape = at_mark pc m e (λ y. slice_get y.slots p ≡ Some (partition sq d)) hp })
+      (at_mark pc m e (λ y. Allowed g t y sp f mode.Read r) h) (at_mark pc m e (λ y. Among y.facts (lies (in_slot s) (in_slot r))) i)
+      (at_mark pc m e (λ y. To g t k (topped y (partition so d ∷ y.stack) (top_parted s)) (suc pc)) to)
 
   -- ---- jumps back
 

@@ -16,7 +16,7 @@ use Rattle.region_tree.specs.Requirements.{IsWithin}
 use Rattle.machine_terms.specs.declared.value.Value.{Value}
 use Rattle.fit_rules.specs.Fits.{declared_claims, own_claims, root_claims, Program, Covers, made_it, declares_it, reads_and_writes}
 use Rattle.fit_rules.specs.Sound.{Allowed, Through, Effect, does_num, does_load, does_drop, does_compute, does_compare, does_pointers_equal, does_pointers_differ, does_negate, does_wrap, does_invert, does_point, does_is_null, does_assert, does_move, does_element, does_read, does_write, does_reduce, does_fill, does_cast, does_cast_pointer, does_space, does_colors, does_child, does_print}
-use Rattle.marked_code.specs.Marked.{Leads, leads_on, leads_storing, leads_nowhere, leads_back, leads_coloured, leads_calling, leads_waiting, leads_making, Typed, typed_empty, typed_op, typed_both, typed_into, typed_from, typed_and, typed_or, typed_if, typed_branch, typed_loop, typed_rounds, typed_points}
+use Rattle.marked_code.specs.Marked.{Leads, leads_on, leads_storing, leads_nowhere, leads_back, leads_coloured, leads_calling, leads_waiting, leads_making, leads_cutting, leads_colouring, leads_minus, leads_meet, leads_join, leads_image, leads_preimage, Typed, typed_empty, typed_op, typed_both, typed_into, typed_from, typed_and, typed_or, typed_if, typed_branch, typed_loop, typed_rounds, typed_points}
 use Rattle.marked_code.specs.Bodies.{MarksAt}
 
 -- the marks of a list are those of the places from the front
@@ -128,6 +128,15 @@ module _ (g : Program) (t : TaskCode) (k : ℕ) (ms : ℕ → ℕ → Mark) (beg
       ))
   leads_remarked _ _ _ (leads_waiting m i s e n h) = leads_waiting m i s e n h
   leads_remarked _ _ _ (leads_making m sp i c ss e there l os oss) = leads_making m sp i c ss e there l os oss
+  leads_remarked _ _ _ (leads_cutting m s sp ss e h) = leads_cutting m s sp ss e h
+  leads_remarked _ _ _ (leads_colouring m s f sp ss e h) = leads_colouring m s f sp ss e (allowed_remarked g t ms m sp f _ s h)
+  leads_remarked _ _ _ (leads_minus m p q s sp sq so d hp hq hs f) = leads_minus m p q s sp sq so d hp hq hs f
+  leads_remarked _ _ _ (leads_meet m p q s sp sq so d e hp hq hs f) = leads_meet m p q s sp sq so d e hp hq hs f
+  leads_remarked _ _ _ (leads_join m p q s sp sq so hp hq hs f h) = leads_join m p q s sp sq so hp hq hs f h
+  leads_remarked _ _ _ (leads_image m s p r f sp sq so hs hp h i) =
+      leads_image m s p r f sp sq so hs hp (allowed_remarked g t ms m sp f _ r h) i
+  leads_remarked _ _ _ (leads_preimage m s p r f sp sq so d hs hp h i) =
+      leads_preimage m s p r f sp sq so d hs hp (allowed_remarked g t ms m sp f _ r h) i
 
   pub typed_remarked : (m : Mark) (p : Piece) (ns : List Mark) (n : Mark) → Typed g t k m p ns n →
       Typed (remarked g ms) t k m p ns n

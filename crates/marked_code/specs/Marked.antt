@@ -1,14 +1,15 @@
 -- Pieces of code with a mark for each line: the code leads from mark to mark.
-use Rattle.std.specs.Prelude.{◌≡◌, ℕ, ◌<◌, ◌≤◌, ℤ, Bool, true, List, [], ◌∷◌, ◌++◌, length, Some, slice_get}
+use Rattle.std.specs.Prelude.{◌≡◌, ℕ, ◌<◌, ◌≤◌, ℤ, Bool, true, false, ◌||◌, List, [], ◌∷◌, ◌++◌, length, Option, Some, slice_get}
+use Rattle.lane_kernels.specs.declared.numbers.Mode.TheVariants as mode
 use Rattle.task_code.specs.declared.code.TaskCode.{TaskCode}
 use Rattle.task_code.specs.declared.instr.Instr.{Instr}
 use Rattle.task_code.specs.declared.instr.Instr.TheVariants as instr
 use Rattle.code_rules.specs.Pieces.{Piece, empty, op, ◌⨟◌, over, branch, loop, rounds}
 use Rattle.task_code.specs.declared.code.SpaceCode.{SpaceCode}
-use Rattle.fit_rules.specs.Shapes.{Among, Each, Shape, truth, space, region, own_as, awaited, Numeric, NumberIs}
-use Rattle.fit_rules.specs.Marks.{ColoursStand, counts, Mark, Into, Stores, stacked, the_colour, top_colour, topped}
+use Rattle.fit_rules.specs.Shapes.{Among, Each, Shape, truth, space, region, partition, own_as, awaited, Numeric, NumberIs}
+use Rattle.fit_rules.specs.Marks.{ColoursStand, counts, in_slot, lies, Mark, Into, parted, Stores, stacked, the_colour, top_colour, top_parted, topped}
 use Rattle.fit_rules.specs.Fits.{Program}
-use Rattle.fit_rules.specs.Sound.{Effect, IsOther, Opens, RoundNumber, RoundPoint, Takes}
+use Rattle.fit_rules.specs.Sound.{Allowed, Effect, HasPartition, HasRegion, IsOther, Opens, RoundNumber, RoundPoint, Takes}
 
 module _ (g : Program) (t : TaskCode) (k : ℕ) where
   -- an instruction leads from a mark to a mark; behind a return any mark may stand
@@ -36,6 +37,28 @@ module _ (g : Program) (t : TaskCode) (k : ℕ) where
     leads_making : (m : Mark) (sp i : ℕ) (c : SpaceCode) (ss : List Shape) → m.stack ≡ space ∷ ss →
         slice_get g.code.spaces sp ≡ Some c → length c.fields ≤ 256 → Each (IsOther i) m.slots → Each (IsOther i) ss →
         Leads m (instr.NewRoot sp) (stacked m (region (Some sp) (own_as i) ∷ ss))
+    -- a partition is made of the region in a slot, an equal one or one by a field
+    leads_cutting : (m : Mark) (s : ℕ) (sp : Option ℕ) (ss : List Shape) → m.stack ≡ space ∷ ss → HasRegion m sp s →
+        Leads m (instr.Equal s) (topped m (partition sp true ∷ ss) (top_parted s))
+    leads_colouring : (m : Mark) (s f sp : ℕ) (ss : List Shape) → m.stack ≡ space ∷ ss → Allowed g t m sp f mode.Read s →
+        Leads m (instr.ByField s f) (topped m (partition (Some sp) true ∷ ss) (top_parted s))
+    -- one is made of two others of the region in a slot
+    leads_minus : (m : Mark) (p q s : ℕ) (sp sq so : Option ℕ) (d : Bool) → slice_get m.slots p ≡ Some (partition sp d) →
+        HasPartition m sq q → HasRegion m so s → Among m.facts (parted p s) →
+        Leads m (instr.Minus p q s) (topped m (partition so d ∷ m.stack) (top_parted s))
+    leads_meet : (m : Mark) (p q s : ℕ) (sp sq so : Option ℕ) (d e : Bool) → slice_get m.slots p ≡ Some (partition sp d) →
+        slice_get m.slots q ≡ Some (partition sq e) → HasRegion m so s → Among m.facts (parted p s) →
+        Leads m (instr.Meet p q s) (topped m (partition so (d || e) ∷ m.stack) (top_parted s))
+    leads_join : (m : Mark) (p q s : ℕ) (sp sq so : Option ℕ) → HasPartition m sp p → HasPartition m sq q → HasRegion m so s →
+        Among m.facts (parted p s) → Among m.facts (parted q s) →
+        Leads m (instr.Join p q s) (topped m (partition so false ∷ m.stack) (top_parted s))
+    -- or of another one and a field of a region: that one is of this region, or what is cut lies within it
+    leads_image : (m : Mark) (s p r f sp : ℕ) (sq so : Option ℕ) → HasRegion m so s → HasPartition m sq p →
+        Allowed g t m sp f mode.Read r → Among m.facts (parted p r) →
+        Leads m (instr.Image s p r f) (topped m (partition so false ∷ m.stack) (top_parted s))
+    leads_preimage : (m : Mark) (s p r f sp : ℕ) (sq so : Option ℕ) (d : Bool) → HasRegion m so s → slice_get m.slots p ≡ Some (partition sq d) →
+        Allowed g t m sp f mode.Read r → Among m.facts (lies (in_slot s) (in_slot r)) →
+        Leads m (instr.Preimage s p r f) (topped m (partition so d ∷ m.stack) (top_parted s))
 
   -- A piece leads from a mark to a mark, with a mark for each of its lines.
   pub data Typed : Mark → Piece → List Mark → Mark → Type 0 where

@@ -204,6 +204,18 @@ impl Instances {
         ensures folds { pending.new.folds ≡ [] }
         ensures spare { pending.old.spare ≤ pending.new.spare }
     {
+        if !pending.is_empty() {
+            self.fold_in(width, pending);
+        }
+    }
+
+    /// The same by going through all points.
+    fn fold_in(&mut self, width: Width, pending: &mut Pending)
+        ensures points { self.new.points ≡ self.old.points }
+        ensures numbers { self.new.numbers ≡ all_beside width pending.old.folds self.old.points self.old.numbers }
+        ensures folds { pending.new.folds ≡ [] }
+        ensures spare { pending.old.spare ≤ pending.new.spare }
+    {
         let root = self.points.get();
         gather(
             root,

@@ -8,9 +8,9 @@ use Rattle.code_boards.specs.Laws.{machine_of, main_of}
 use Rattle.code_boards.specs.Views.{board_segment, spaces_of}
 use Rattle.code_boards.proofs.Ends.{main_names_no_root}
 use Rattle.code_boards.proofs.Views.{board_keeps, board_runs_renamed}
-use Rattle.progress_boards.specs.Laws.{JobsHeldApart, JobsInProgressApart, JobsIssuedNeeded, JobsSomeReady}
+use Rattle.progress_boards.specs.Laws.{JobsFilled, JobsHeldApart, JobsInProgressApart, JobsIssuedNeeded, JobsSomeReady}
 use Rattle.progress_laws.specs.Progress.{NeedsAreRenamed}
-use Rattle.progress_laws.proofs.ByNumber.{held_by_number, in_progress_by_number, issued_by_number, ready_by_number}
+use Rattle.progress_laws.proofs.ByNumber.{filled_by_number, held_by_number, in_progress_by_number, issued_by_number, ready_by_number}
 use Rattle.regent_boards.specs.Frames.{Spaces}
 use Rattle.regent_boards.specs.Laws.{IsMain, by_maker, to_makers}
 use Rattle.regent_boards.specs.RegentMachine.{base, name_of, regent_ground, regent_roots}
@@ -61,6 +61,9 @@ jobs_issued_needed job t = issued_by_number base (R job) (R job) (machine_of job
 
 pub jobs_held_apart : JobsHeldApart
 jobs_held_apart job t = held_by_number base (R job) (R job) (machine_of job) (K job) (to job) (IsStart job) (laws job) (can job) (needs_are_renamed job) (main_of job t) (is_start job t)
+
+pub jobs_filled_from_map : JobsFilled
+jobs_filled_from_map job t = filled_by_number base (R job) (R job) (machine_of job) (K job) (to job) (IsStart job) (laws job) (can job) (main_of job t) (is_start job t)
 
 pub jobs_some_ready : JobsSomeReady
 jobs_some_ready job t = ready_by_number base (R job) (R job) (machine_of job) (K job) (to job) (IsStart job) (laws job) (can job) (main_of job t) (is_start job t)

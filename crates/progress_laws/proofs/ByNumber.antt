@@ -1,6 +1,6 @@
 -- What holds of boards in progress by names holds of them by numbers.
 use Rattle.std.proofs.Common.{◌≡◌, ◌∷◌, ◌∙◌, List, None, Option, Some, [], ap, arith, is_some, option_map, refl, suc, subst, sym, true, zero, ℕ}
-use Rattle.board_rules.specs.Apart.{claimed_by, needs_now, parts_of}
+use Rattle.board_rules.specs.Apart.{claimed_by, filled_by, needs_now, parts_of}
 use Rattle.board_rules.specs.Boards.{Items, Operation, Stepped, child_op, claim, needs_of, no_item, op, said, stage_of, step_in}
 use Rattle.board_rules.specs.ByNumber.{Differ, Renamable, board_maker, board_making}
 use Rattle.board_rules.specs.Ground.{Ground, Mode}
@@ -10,16 +10,16 @@ use Rattle.board_rules.specs.Processes.{Apart, Inside, Map}
 use Rattle.board_rules.specs.Renaming.{Base, Renamed, Renames, Roots, effects_to, ground_over, node_to}
 use Rattle.board_rules.specs.RootNames.{Name, names}
 use Rattle.board_rules.specs.RootNumbers.{made_in, replay_numbered, turned_onto}
-use Rattle.board_rules.specs.Running.{Laws, Machine, spots}
+use Rattle.board_rules.specs.Running.{Element, Laws, Machine, filled, spots}
 use Rattle.board_laws.proofs.Apart.{in_progress_apart}
-use Rattle.board_laws.proofs.Held.{held_apart}
+use Rattle.board_laws.proofs.Held.{filled_from_map, held_apart}
 use Rattle.board_laws.proofs.Ready.{some_ready}
 use Rattle.number_laws.proofs.ByNumber.{steps_reach}
 use Rattle.number_laws.proofs.Counts.{IfLeft}
 use Rattle.number_laws.proofs.Naming.{board_renaming, names_differ, reached_by_name, turned_back}
 use Rattle.number_laws.proofs.Renamed.{NamedAmong, NamedIn, step_alike}
-use Rattle.progress_laws.specs.Progress.{HeldApartByNumber, HeldIsApart, InProgressApartByNumber, IssuedByNumber, IssuedIsNeeded, NeedsAreRenamed, ProgressIsApart, SomeIsReady, SomeReadyByNumber}
-use Rattle.progress_laws.proofs.Found.{claimed_spots_to, claims_to, found_to, held_back, issued_to, needs_to, over_to, parts_to, progress_to}
+use Rattle.progress_laws.specs.Progress.{FilledByNumber, FilledIsMap, HeldApartByNumber, HeldIsApart, InProgressApartByNumber, IssuedByNumber, IssuedIsNeeded, NeedsAreRenamed, ProgressIsApart, SomeIsReady, SomeReadyByNumber}
+use Rattle.progress_laws.proofs.Found.{claimed_spots_to, claims_to, filled_back, filled_to, found_to, held_back, issued_to, needs_to, over_to, parts_to, progress_to}
 use Rattle.progress_laws.proofs.Issued.{still_needs}
 use Rattle.progress_laws.proofs.Numbers.{HasNumber, Listed, board_listed, unclaimed}
 use Rattle.progress_laws.proofs.Steps.{Leaves, step_leaves}
@@ -99,6 +99,12 @@ module _ (B : Base) (X Y : Roots B) (M : ℕ → Machine (ground_over B X)) (K :
             held_back B X Y R stays (claimed_by G (stage_of G a)) (claimed_by H (stage_of H (node_to B X Y R a))) a (claimed_spots_to B X Y R a) there.1,
           )
 
+    from_map : FilledIsMap G M b
+    from_map way a e =
+        filled_back B X Y R (M 0) K b.state.map reached.0 reached.1 (filled_by G (stage_of G a))
+        (subst (λ (xs : List (Element H)). filled H K (spots H xs) reached.0 ≡ xs) (filled_to B X Y R a)
+        (filled_from_map H K laws named journal state reached.2 way (node_to B X Y R a) (found_to B X Y R way b.state.tree a e)))
+
     -- ---- what can be claimed
 
     abbrev now : Machine G
@@ -156,6 +162,9 @@ module _ (B : Base) (X Y : Roots B) (M : ℕ → Machine (ground_over B X)) (K :
 
   pub held_by_number : NeedsAreRenamed B X Y rename → HeldApartByNumber G M IsJob
   held_by_number renamed job is steps b made = held job is steps b made renamed
+
+  pub filled_by_number : FilledByNumber G M IsJob
+  filled_by_number job is steps b made = from_map job is steps b made
 
   pub ready_by_number : SomeReadyByNumber G M IsJob
   ready_by_number job is steps b made = ready job is steps b made

@@ -1,14 +1,14 @@
 -- What a way leads to in a renamed tree, and what is read there.
-use Rattle.std.proofs.Common.{◌≡◌, ◌++◌, ◌∷◌, ◌∙◌, ◌||◌, List, Option, Some, [], ap, option_map, refl, subst, suc, zero, ℕ}
-use Rattle.std.specs.Prelude.{All}
+use Rattle.std.proofs.Common.{◌≡◌, ◌++◌, ◌∷◌, ◌∙◌, ◌||◌, List, Option, Some, [], ap, option_map, refl, subst, suc, sym, zero, ℕ}
+use Rattle.std.specs.Prelude.{All, drop, get_or}
 use Rattle.std.proofs.lemmas.List.Elements.{All-cons, All-head, All-nil, All-tail}
-use Rattle.board_rules.specs.Apart.{ApartWhileOpen, children_in, children_of, claimed_by, find, find_among, in_progress, needs_now, parts_of}
+use Rattle.board_rules.specs.Apart.{ApartWhileOpen, children_in, children_of, claimed_by, filled_by, find, find_among, in_progress, needs_now, parts_of}
 use Rattle.board_rules.specs.Boards.{Items, Operation, Stage, child, child_op, closing, dropped, filling, first, idle, is_over, needs_of, no_item, nothing, op, out, over, part, said, stage_of}
-use Rattle.board_rules.specs.Ground.{Ground, Mode}
-use Rattle.board_rules.specs.Processes.{Apart}
+use Rattle.board_rules.specs.Ground.{Ground, Mode, reads, reduces, writes}
+use Rattle.board_rules.specs.Processes.{Apart, Map}
 use Rattle.board_rules.specs.Ready.{claims_among, claims_in, is_claimed}
-use Rattle.board_rules.specs.Renaming.{Base, Renames, Roots, elements, ground_over, items_to, node_to, spots_to, stage_to}
-use Rattle.board_rules.specs.Running.{Element, Spot, spots}
+use Rattle.board_rules.specs.Renaming.{Base, Renames, Roots, element, elements, ground_over, items_to, node_to, spots_to, stage_to}
+use Rattle.board_rules.specs.Running.{Element, Machine, Spot, filled, number_of, spots}
 
 module _ (B : Base) (X Y : Roots B) (R : Renames B X Y) where
   abbrev G : Ground
@@ -99,6 +99,30 @@ module _ (B : Base) (X Y : Roots B) (R : Renames B X Y) where
   claimed_spots_to (op D N i f ps (closing e) is) = refl
   claimed_spots_to (op D N i f ps (over e) is) = refl
   claimed_spots_to (op D N i f ps dropped is) = refl
+
+  -- ---- what was filled
+
+  pub filled_to : (a : Operation G) → filled_by H (stage_of H (node_to B X Y R a)) ≡ elements B X Y R (filled_by G (stage_of G a))
+  filled_to (op D N i f ps (idle w) is) = refl
+  filled_to (op D N i f ps (filling w d l) is) = refl
+  filled_to (op D N i f ps (out w d) is) = refl
+  filled_to (op D N i f ps (closing e) is) = refl
+  filled_to (op D N i f ps (over e) is) = refl
+  filled_to (op D N i f ps dropped is) = refl
+
+  module _ (M : Machine G) (K : Machine H) (m : Map G) (v : Map H) (same : (l : X.Location) → v (R.loc l) ≡ m l) where
+    number_back : (o : Mode B.Op) (l : X.Location) → number_of G M o l m ≡ number_of H K o (R.loc l) v
+    number_back reads l = sym (same l)
+    number_back writes l = sym (same l)
+    number_back (reduces o) l = refl
+
+    -- elements that, renamed, are what would be filled from the renamed map are what would be filled from the map
+    pub filled_back : (xs : List (Element G)) → filled H K (spots H (elements B X Y R xs)) v ≡ elements B X Y R xs → filled G M (spots G xs) m ≡ xs
+    filled_back [] e = refl
+    filled_back (x ∷ xs) e =
+        let head : number_of H K x.mode (R.loc x.location) v ≡ x.number = ap (λ (ys : List (Element H)). (get_or ys 0 (element B X Y R x)).number) e in
+        let tail : filled H K (spots H (elements B X Y R xs)) v ≡ elements B X Y R xs = ap (drop 1) e in
+        λ i. record { location = x.location; mode = x.mode; number = (number_back x.mode x.location ∙ head) i } ∷ filled_back xs tail i
 
   abbrev nodes_to : List (Operation G) → List (Operation H)
   nodes_to [] = []

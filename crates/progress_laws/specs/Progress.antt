@@ -1,11 +1,11 @@
 -- What is so of every board with operations, seats and roots by numbers, whatever steps lead to it: operations
 -- in progress that are no ancestors of each other never interfere, what an operation was issued with it still
--- needs, what it holds conflicts with no need of its unfinished children, and where there is no claim and the
--- first task isn't over, some operation can be claimed.
+-- needs, what it holds conflicts with no need of its unfinished children, what a claim has filled is what stands in
+-- the map, and where there is no claim and the first task isn't over, some operation can be claimed.
 --
 -- Needs are read at locations of the numbered roots.
 use Rattle.std.specs.Prelude.{◌≡◌, All, List, Some, [], false, is_some, true, ℕ}
-use Rattle.board_rules.specs.Apart.{ApartWhileOpen, begins, children_of, claimed_by, find, in_progress, needs_now, parts_of}
+use Rattle.board_rules.specs.Apart.{ApartWhileOpen, begins, children_of, claimed_by, filled_by, find, in_progress, needs_now, parts_of}
 use Rattle.board_rules.specs.Boards.{Operation, claim, is_over, needs_of, stage_of}
 use Rattle.board_rules.specs.ByNumber.{Differ}
 use Rattle.board_rules.specs.Ground.{Ground}
@@ -13,7 +13,7 @@ use Rattle.board_rules.specs.Journals.{Job}
 use Rattle.board_rules.specs.NumberedBoards.{Board, Step, after_step, board_of}
 use Rattle.board_rules.specs.Processes.{Apart, Inside}
 use Rattle.board_rules.specs.Renaming.{Base, Renames, Roots}
-use Rattle.board_rules.specs.Running.{Machine, spots}
+use Rattle.board_rules.specs.Running.{Machine, filled, spots}
 
 -- However numbers are named, as long as no two are named alike, renamed needs are at a renamed location what
 -- the needs are at the location.
@@ -39,6 +39,11 @@ module _ (G : Ground) where
   HeldIsApart b = (way : List ℕ) (a : Operation G) → find G way b.state.tree ≡ Some a →
       All (ApartWhileOpen G (spots G (parts_of G a))) (children_of G a) × All (ApartWhileOpen G (claimed_by G (stage_of G a))) (children_of G a)
 
+  -- what was filled of an operation so far, while it is Filling and while it is Out, is what would be filled now
+  abbrev pub FilledIsMap : (ℕ → Machine G) → Board G → Type 0
+  FilledIsMap M b = (way : List ℕ) (a : Operation G) → find G way b.state.tree ≡ Some a →
+      filled G (M 0) (spots G (filled_by G (stage_of G a))) b.state.map ≡ filled_by G (stage_of G a)
+
   -- Where the first task isn't over and there is no claim, some operation can be claimed, by each seat.
   abbrev pub SomeIsReady : (ℕ → Machine G) → Board G → Type 0
   SomeIsReady M b = is_over G (stage_of G b.state.tree) ≡ false → b.claims ≡ [] →
@@ -59,6 +64,9 @@ module _ (G : Ground) (M : ℕ → Machine G) (IsJob : Job G → Type 0) where
 
   abbrev pub HeldApartByNumber : Type 0
   HeldApartByNumber = OfEachBoard (HeldIsApart G)
+
+  abbrev pub FilledByNumber : Type 0
+  FilledByNumber = OfEachBoard (FilledIsMap G M)
 
   abbrev pub SomeReadyByNumber : Type 0
   SomeReadyByNumber = OfEachBoard (SomeIsReady G M)

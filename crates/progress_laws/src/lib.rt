@@ -5,7 +5,7 @@
 #![tactic(auto)]
 
 ghost use Rattle.board_rules.specs.Renaming.{ground_over};
-ghost use Rattle.progress_laws.specs.Progress.{HeldApartByNumber, InProgressApartByNumber, IssuedByNumber, NeedsAreRenamed, SomeReadyByNumber};
+ghost use Rattle.progress_laws.specs.Progress.{FilledByNumber, HeldApartByNumber, InProgressApartByNumber, IssuedByNumber, NeedsAreRenamed, SomeReadyByNumber};
 
 use board_rules::NumberedMachine;
 
@@ -22,6 +22,11 @@ pub fn issued_needed<T: NumberedMachine>()
 /// What an operation holds, and what it is being filled with, conflicts with no need of its unfinished children.
 pub fn held_apart<T: NumberedMachine>()
     ensures { NeedsAreRenamed T.base T.numbered T.named T.rename → HeldApartByNumber (ground_over T.base T.numbered) T.machines T.is_job }
+{}
+
+/// The elements that a claim has filled so far equal the map.
+pub fn filled_from_map<T: NumberedMachine>()
+    ensures { FilledByNumber (ground_over T.base T.numbered) T.machines T.is_job }
 {}
 
 /// A board that isn't finished and has no claim out has an operation that each seat may claim.

@@ -1,17 +1,15 @@
 -- What a call answers, from what it comes to and what it wrote.
 use Rattle.std.proofs.Common.{◌≡◌, ◌≢◌, ℕ, ◌≤◌, ◌⊎◌, inl, inr, List, [], Option, Some, None, Err, IfSome, length, refl, sym, subst, ◌∙◌}
-use Rattle.std.specs.Option.{option_map}
-use Rattle.run_io.specs.Source.{next_left}
 use Rattle.regent_run.specs.declared.verdict.Verdict.{Verdict}
 use Rattle.regent_run.specs.declared.verdict.Verdict.TheVariants as verdict
-use Rattle.regent_run.specs.Answers.{IsAnswered, IsBegunOnce, IsNotBegun, IsOfText, IsReadWhole, Takes, UnlessStopped}
-use Rattle.regent_run.specs.Begins.{Begins, BeginsNamed}
+use Rattle.regent_run.specs.Answers.{IsAnswered, IsBegunOnce, IsNotBegun, IsOfText, IsReadWhole, UnlessStopped}
+use Rattle.regent_run.specs.Begins.{Begins}
 use Rattle.regent_run.specs.Calls.{Call}
-use Rattle.regent_run.specs.Programs.{OfNextText}
-use Rattle.regent_run.specs.Reading.{IsSteady, ReadsToEnd}
+use Rattle.regent_run.specs.Origins.{begun_for}
+use Rattle.regent_run.specs.Reading.{IsSteady, ReadsToEnd, UsesSource}
 use Rattle.regent_run.specs.Verdicts.{IsDelivered, Tells, status_of}
-use Rattle.regent_run.specs.Words.{Request, request}
-use Rattle.regent_run.proofs.Coming.{comes_to, complete_at}
+use Rattle.regent_run.specs.Words.{AsksNoFile, Request, request}
+use Rattle.regent_run.proofs.Coming.{TellsIn, comes_to, complete_at}
 use Rattle.regent_run.proofs.Writing.{ends_as, prints_or_tells, sure_as, written}
 
 -- words that are refused name nothing
@@ -20,7 +18,7 @@ none_named asked named is none = let e : None ≡ Some named = sym none ∙ is i
 
 refused : (serves : ℕ → ℕ) (asked : Option Request) (later : Option (List (List ℕ))) (before now : ℕ) (v : Verdict) → Tells serves asked later before now v → asked ≡ None → (status_of v ≡ 2) ⊎ (status_of v ≡ 7)
 refused serves asked later before now verdict.Usage said none = inl refl
-refused serves asked later before now verdict.Unread said none = none_named asked said.0 said.1 none
+refused serves asked later before now verdict.Unread said none = absurd (said.of_file (subst (λ (a : Option Request). AsksNoFile a) (sym none) tt))
 refused serves asked later before now verdict.NoMemory said none = inr refl
 refused serves asked later before now (verdict.NoProgram message) said none = none_named asked said.0 said.1 none
 refused serves asked later before now (verdict.PastLimit passed) said none = none_named asked said.0 said.1 none
@@ -53,67 +51,49 @@ steady_source before now verdict.Accepted h isnt = h
 
 -- ---- what was read
 
-abbrev BeginsIn : Call → Verdict → Type 0
-BeginsIn call v = Begins (request call.words) call.source.begins call.source.begins_now call.source.names call.source.names_now (Err v)
-
-abbrev EndsIn : Call → Verdict → Type 0
-EndsIn call v = ReadsToEnd (option_map next_left call.source.later) call.source.left_now (Err v)
-
-abbrev BeginsAsked : Call → Type 0
-BeginsAsked call = BeginsNamed (request call.words) call.source.begins call.source.begins_now call.source.names call.source.names_now
-
-begun_once : (call : Call) → BeginsAsked call → IsBegunOnce call
-begun_once call h = record { named = h.named; words_name = h.is_asked; begun = h.begun }
-
-maybe_begun : (call : Call) → IsNotBegun call ⊎ BeginsAsked call → IsNotBegun call ⊎ IsBegunOnce call
-maybe_begun call (inl u) = inl u
-maybe_begun call (inr b) = inr (begun_once call b)
+abbrev UsesIn : Call → Verdict → Type 0
+UsesIn call v = UsesSource (request call.words) call.source (Err v)
 
 -- a text that was read was begun
-begun_as : (call : Call) (v : Verdict) → BeginsIn call v → IsOfText (status_of v) → IsBegunOnce call
+begun_as : (call : Call) (v : Verdict) → Begins (request call.words) call.source (Err v) → IsOfText (status_of v) → IsBegunOnce call
 begun_as call verdict.Usage h is = absurd (is.0 refl)
 begun_as call verdict.Unread h is = absurd (is.1 refl)
 begun_as call verdict.NoMemory h is = absurd (is.3 refl)
-begun_as call (verdict.NoProgram message) h is = begun_once call h
-begun_as call (verdict.PastLimit passed) h is = begun_once call h
-begun_as call (verdict.Refused message) h is = begun_once call h
-begun_as call verdict.NotBuilt h is = begun_once call h
-begun_as call verdict.OtherInputs h is = begun_once call h
-begun_as call (verdict.Finished text trace) h is = begun_once call h
-begun_as call (verdict.Faulted text message) h is = begun_once call h
-begun_as call verdict.Accepted h is = begun_once call h
+begun_as call (verdict.NoProgram message) h is = h
+begun_as call (verdict.PastLimit passed) h is = h
+begun_as call (verdict.Refused message) h is = h
+begun_as call verdict.NotBuilt h is = h
+begun_as call verdict.OtherInputs h is = h
+begun_as call (verdict.Finished text trace) h is = h
+begun_as call (verdict.Faulted text message) h is = h
+begun_as call verdict.Accepted h is = h
 
-begins_as : (call : Call) (v : Verdict) → BeginsIn call v → IsNotBegun call ⊎ IsBegunOnce call
-begins_as call verdict.Usage h = inl h
-begins_as call verdict.Unread h = inr (begun_once call h)
-begins_as call verdict.NoMemory h = maybe_begun call h
-begins_as call (verdict.NoProgram message) h = inr (begun_once call h)
-begins_as call (verdict.PastLimit passed) h = inr (begun_once call h)
-begins_as call (verdict.Refused message) h = inr (begun_once call h)
-begins_as call verdict.NotBuilt h = inr (begun_once call h)
-begins_as call verdict.OtherInputs h = inr (begun_once call h)
-begins_as call (verdict.Finished text trace) h = inr (begun_once call h)
-begins_as call (verdict.Faulted text message) h = inr (begun_once call h)
-begins_as call verdict.Accepted h = inr (begun_once call h)
+begins_in : (call : Call) (v : Verdict) → Begins (request call.words) call.source (Err v) → IsNotBegun call ⊎ IsBegunOnce call
+begins_in call verdict.Usage h = inl h
+begins_in call verdict.Unread h = inr h
+begins_in call verdict.NoMemory h = h
+begins_in call (verdict.NoProgram message) h = inr h
+begins_in call (verdict.PastLimit passed) h = inr h
+begins_in call (verdict.Refused message) h = inr h
+begins_in call verdict.NotBuilt h = inr h
+begins_in call verdict.OtherInputs h = inr h
+begins_in call (verdict.Finished text trace) h = inr h
+begins_in call (verdict.Faulted text message) h = inr h
+begins_in call verdict.Accepted h = inr h
 
 -- a text that isn't too long was read to its end
-next_read : (later : Option (List (List ℕ))) (now : Option (List ℕ)) → IfSome (option_map next_left later) (λ text. length text ≤ 1048576 → IfSome now (λ left. left ≡ [])) →
-    OfNextText later (λ text. length text ≤ 1048576 → IfSome now (λ rest. rest ≡ []))
-next_read None now h = tt
-next_read (Some texts) now h = h
-
-whole_as : (call : Call) (v : Verdict) → EndsIn call v → IsOfText (status_of v) → IsReadWhole call
-whole_as call verdict.Usage h is = absurd (is.0 refl)
-whole_as call verdict.Unread h is = absurd (is.1 refl)
-whole_as call verdict.NoMemory h is = absurd (is.3 refl)
-whole_as call (verdict.NoProgram message) h is = next_read call.source.later call.source.left_now h
-whole_as call (verdict.PastLimit passed) h is = next_read call.source.later call.source.left_now h
-whole_as call (verdict.Refused message) h is = next_read call.source.later call.source.left_now h
-whole_as call verdict.NotBuilt h is = next_read call.source.later call.source.left_now h
-whole_as call verdict.OtherInputs h is = next_read call.source.later call.source.left_now h
-whole_as call (verdict.Finished text trace) h is = next_read call.source.later call.source.left_now h
-whole_as call (verdict.Faulted text message) h is = next_read call.source.later call.source.left_now h
-whole_as call verdict.Accepted h is = next_read call.source.later call.source.left_now h
+whole_in : (call : Call) (v : Verdict) → ReadsToEnd (begun_for (request call.words) call.source.later) call.source.left_now (Err v) → IsOfText (status_of v) → IsReadWhole call
+whole_in call verdict.Usage h is = absurd (is.0 refl)
+whole_in call verdict.Unread h is = absurd (is.1 refl)
+whole_in call verdict.NoMemory h is = absurd (is.3 refl)
+whole_in call (verdict.NoProgram message) h is = h
+whole_in call (verdict.PastLimit passed) h is = h
+whole_in call (verdict.Refused message) h is = h
+whole_in call verdict.NotBuilt h is = h
+whole_in call verdict.OtherInputs h is = h
+whole_in call (verdict.Finished text trace) h is = h
+whole_in call (verdict.Faulted text message) h is = h
+whole_in call verdict.Accepted h is = h
 
 -- ---- the whole
 
@@ -121,19 +101,18 @@ whole_as call verdict.Accepted h is = next_read call.source.later call.source.le
 of_text : (call : Call) (v : Verdict) (answer : ℕ) → IsDelivered v answer call.out call.err → IsOfText answer → IsOfText (status_of v)
 of_text call v answer d is = subst (λ (n : ℕ). IsOfText n) (written v answer call.out call.err d is.2).status is
 
-pub answered : (call : Call) (v : Verdict) (answer : ℕ) → Tells call.serves (request call.words) call.source.later call.source.faults call.source.faults_now v → BeginsIn call v → Takes 1048577 call → EndsIn call v →
-    IsSteady call.source.faults call.source.faults_now (Err v) → IsDelivered v answer call.out call.err → IsAnswered call answer
-answered call v answer said begins takes end steady d =
+pub answered : (call : Call) (v : Verdict) (answer : ℕ) → TellsIn call v → UsesIn call v → IsDelivered v answer call.out call.err → IsAnswered call answer
+answered call v answer said uses d =
     record {
       ends = ends_as call v answer d (prints_or_tells call v said);
       refuses = λ none. stopped_or_two call v answer d (refused call.serves (request call.words) call.source.later call.source.faults call.source.faults_now v said none);
-      comes = comes_to call call.source.later v answer said d;
-      complete = complete_at call call.source.later v answer said d;
+      comes = comes_to call v answer said d;
+      complete = complete_at call v answer said d;
       sure = sure_as call v answer d (prints_or_tells call v said);
-      read = λ not3 not4. steady_source call.source.faults call.source.faults_now v steady (λ three. not3 ((written v answer call.out call.err d not4).status ∙ three));
+      read = λ not3 not4. steady_source call.source.faults call.source.faults_now v uses.steady (λ three. not3 ((written v answer call.out call.err d not4).status ∙ three));
       steady = λ not4. ((written v answer call.out call.err d not4).output.steady, (written v answer call.out call.err d not4).errors.steady);
-      begins = begins_as call v begins;
-      begun = λ is. begun_as call v begins (of_text call v answer d is);
-      takes = takes;
-      whole = λ is. whole_as call v end (of_text call v answer d is);
+      begins = begins_in call v uses.begins;
+      begun = λ is. begun_as call v uses.begins (of_text call v answer d is);
+      takes = uses.takes;
+      whole = λ is. whole_in call v uses.whole (of_text call v answer d is);
     }

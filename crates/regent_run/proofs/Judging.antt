@@ -14,8 +14,12 @@ use Rattle.regent_run.specs.declared.verdict.Verdict.TheVariants as verdict
 use Rattle.regent_lex.specs.declared.fault.LexKind.{LexKind}
 use Rattle.regent_lex.specs.declared.fault.LexKind.TheVariants.{BadByte, Unclosed, NumberTooLarge, NameTooLong}
 use Rattle.regent_run.specs.Programs.{limit_in_token, syntax_line}
-use Rattle.regent_run.specs.Verdicts.{IsNoProgram, Judges, JudgesAccepted, JudgesProgram, Says, SaysOfText, TellsFault}
-use Rattle.regent_run.specs.Words.{Deed, Request, checks, runs}
+use Rattle.run_io.specs.Faults.{Rose}
+use Rattle.regent_run.specs.Verdicts.{CantBeRead, IsNoProgram, Judges, JudgesAccepted, JudgesProgram, Says, SaysOfText, TellsFault}
+use Rattle.regent_run.specs.Origins.{text_from}
+use Rattle.command_words.specs.Commands.{Command, command}
+use Rattle.regent_run.specs.Words.{Deed, Request, asked_by, asked_of_file, checks, request, runs, sample}
+use Rattle.sample_maker.specs.Texts.{sample_text}
 use Rattle.check_rules.specs.Breaches.{breaches}
 
 -- a text that was read and has no breach comes to what its program comes to
@@ -67,25 +71,24 @@ fault_judges text deed fault verdict.Accepted reads h = absurd h
 -- ---- from the bytes that were read to the text that the begin left
 
 -- the text is what was read and what is left of it
-left_on : (later : Option (List (List ℕ))) (read : List ℕ) (left : Option (List ℕ)) (texts : List (List ℕ)) → later ≡ Some texts →
-    Moves (option_map next_left later) read left → (rest : List ℕ) × (left ≡ Some rest) × (next_left texts ≡ read ++ rest)
-left_on later read None texts is moves = let e : Some (next_left texts) ≡ None = rw is at moves in absurd cc
-left_on later read (Some rest) texts is moves = let e : Some (next_left texts) ≡ Some (read ++ rest) = rw is at moves in (rest, refl, cc)
+pub left_on : (text read : List ℕ) (left : Option (List ℕ)) → Moves (Some text) read left → (rest : List ℕ) × (left ≡ Some rest) × (text ≡ read ++ rest)
+left_on text read None moves = let e : Some text ≡ None = moves in absurd cc
+left_on text read (Some rest) moves = let e : Some text ≡ Some (read ++ rest) = moves in (rest, refl, cc)
 
 -- of a text that is read to its end all is said
-says_of_read : (deed : Deed) (judged : Result Plan Verdict) (texts : List (List ℕ)) (before now : ℕ) → Judges (next_left texts) deed judged → SaysOfText (Some texts) deed before now judged
-says_of_read deed (Ok plan) texts before now h = h
-says_of_read deed (Err verdict.Usage) texts before now h = absurd h
-says_of_read deed (Err verdict.Unread) texts before now h = absurd h
-says_of_read deed (Err verdict.NoMemory) texts before now h = tt
-says_of_read deed (Err (verdict.NoProgram message)) texts before now h = h
-says_of_read deed (Err (verdict.PastLimit passed)) texts before now h = h
-says_of_read deed (Err (verdict.Refused message)) texts before now h = h
-says_of_read deed (Err verdict.NotBuilt) texts before now h = h
-says_of_read deed (Err verdict.OtherInputs) texts before now h = h
-says_of_read deed (Err (verdict.Finished printed trace)) texts before now h = absurd h
-says_of_read deed (Err (verdict.Faulted printed message)) texts before now h = absurd h
-says_of_read deed (Err verdict.Accepted) texts before now h = h
+pub says_of_read : (deed : Deed) (judged : Result Plan Verdict) (text : List ℕ) → Judges text deed judged → SaysOfText (Some text) deed judged
+says_of_read deed (Ok plan) text h = h
+says_of_read deed (Err verdict.Usage) text h = absurd h
+says_of_read deed (Err verdict.Unread) text h = absurd h
+says_of_read deed (Err verdict.NoMemory) text h = tt
+says_of_read deed (Err (verdict.NoProgram message)) text h = h
+says_of_read deed (Err (verdict.PastLimit passed)) text h = h
+says_of_read deed (Err (verdict.Refused message)) text h = h
+says_of_read deed (Err verdict.NotBuilt) text h = h
+says_of_read deed (Err verdict.OtherInputs) text h = h
+says_of_read deed (Err (verdict.Finished printed trace)) text h = absurd h
+says_of_read deed (Err (verdict.Faulted printed message)) text h = absurd h
+says_of_read deed (Err verdict.Accepted) text h = h
 
 -- a text that is too long comes to that alone, however it goes on
 long_reads : (read : List ℕ) (outcome : Outcome) → 1048576 < length read → Reads read outcome → outcome ≡ Err TooLong
@@ -126,49 +129,65 @@ says_on text read rest deed judged is whole (inl long) h = long_judges text read
 says_on text read rest deed judged is whole (inr short) h =
     subst (λ (t : List ℕ). Judges t deed judged) (sym (is ∙ ap (λ r. read ++ r) (whole short) ∙ append-nil read)) h
 
-says_nothing : (read : List ℕ) (deed : Deed) (judged : Result Plan Verdict) (before now : ℕ) → Judges read deed judged → SaysOfText None deed before now judged
-says_nothing read deed (Ok plan) before now h = (h.0, h.1, h.2, tt, h.4)
-says_nothing read deed (Err verdict.Usage) before now h = absurd h
-says_nothing read deed (Err verdict.Unread) before now h = absurd h
-says_nothing read deed (Err verdict.NoMemory) before now h = tt
-says_nothing read deed (Err (verdict.NoProgram message)) before now h = (h.0, h.1, tt)
-says_nothing read deed (Err (verdict.PastLimit passed)) before now h = tt
-says_nothing read deed (Err (verdict.Refused message)) before now h = (h.0, h.1, h.2, tt)
-says_nothing read deed (Err verdict.NotBuilt) before now h = (h.0, h.1, tt)
-says_nothing read deed (Err verdict.OtherInputs) before now h = (h.0, h.1, tt)
-says_nothing read deed (Err (verdict.Finished printed trace)) before now h = absurd h
-says_nothing read deed (Err (verdict.Faulted printed message)) before now h = absurd h
-says_nothing read deed (Err verdict.Accepted) before now h = (h.0, tt)
+says_nothing : (read : List ℕ) (deed : Deed) (judged : Result Plan Verdict) → Judges read deed judged → SaysOfText None deed judged
+says_nothing read deed (Ok plan) h = (h.0, h.1, h.2, tt, h.4)
+says_nothing read deed (Err verdict.Usage) h = absurd h
+says_nothing read deed (Err verdict.Unread) h = absurd h
+says_nothing read deed (Err verdict.NoMemory) h = tt
+says_nothing read deed (Err (verdict.NoProgram message)) h = (h.0, h.1, tt)
+says_nothing read deed (Err (verdict.PastLimit passed)) h = tt
+says_nothing read deed (Err (verdict.Refused message)) h = (h.0, h.1, h.2, tt)
+says_nothing read deed (Err verdict.NotBuilt) h = (h.0, h.1, tt)
+says_nothing read deed (Err verdict.OtherInputs) h = (h.0, h.1, tt)
+says_nothing read deed (Err (verdict.Finished printed trace)) h = absurd h
+says_nothing read deed (Err (verdict.Faulted printed message)) h = absurd h
+says_nothing read deed (Err verdict.Accepted) h = (h.0, tt)
 
 -- what is judged of the bytes that were read is said of the text
-says_of_text : (later : Option (List (List ℕ))) (read : List ℕ) (left : Option (List ℕ)) (deed : Deed) (judged : Result Plan Verdict) (before now : ℕ) →
-    Moves (option_map next_left later) read left → (length read ≤ 1048576 → IfSome left (λ rest. rest ≡ [])) → Judges read deed judged → SaysOfText later deed before now judged
-says_of_text None read left deed judged before now moves whole h = says_nothing read deed judged before now h
-says_of_text (Some texts) read left deed judged before now moves whole h =
-    let p = left_on (Some texts) read left texts refl moves in
-    says_of_read deed judged texts before now
-    (says_on (next_left texts) read p.0 deed judged p.2
+says_of_text : (told : Option (List ℕ)) (read : List ℕ) (left : Option (List ℕ)) (deed : Deed) (judged : Result Plan Verdict) →
+    Moves told read left → (length read ≤ 1048576 → IfSome left (λ rest. rest ≡ [])) → Judges read deed judged → SaysOfText told deed judged
+says_of_text None read left deed judged moves whole h = says_nothing read deed judged h
+says_of_text (Some text) read left deed judged moves whole h =
+    let p = left_on text read left moves in
+    says_of_read deed judged text
+    (says_on text read p.0 deed judged p.2
     (λ short. let w : IfSome (Some p.0) (λ rest. rest ≡ []) = subst (λ (o : Option (List ℕ)). IfSome o (λ rest. rest ≡ [])) p.1 (whole short) in w)
     (cases_lt 1048576 (length read)) h)
 
--- of the file that is asked for
-says_of_file : (r : Request) (later : Option (List (List ℕ))) (before now : ℕ) (judged : Result Plan Verdict) → SaysOfText later r.deed before now judged → Says (Some r) later before now judged
-says_of_file r later before now (Ok plan) h = (r, refl, h)
-says_of_file r later before now (Err verdict.Usage) h = absurd h
-says_of_file r later before now (Err verdict.Unread) h = (r, refl, h)
-says_of_file r later before now (Err verdict.NoMemory) h = tt
-says_of_file r later before now (Err (verdict.NoProgram message)) h = (r, refl, h)
-says_of_file r later before now (Err (verdict.PastLimit passed)) h = (r, refl, h)
-says_of_file r later before now (Err (verdict.Refused message)) h = (r, refl, h)
-says_of_file r later before now (Err verdict.NotBuilt) h = (r, refl, h)
-says_of_file r later before now (Err verdict.OtherInputs) h = (r, refl, h)
-says_of_file r later before now (Err (verdict.Finished printed trace)) h = (r, refl, h)
-says_of_file r later before now (Err (verdict.Faulted printed message)) h = (r, refl, h)
-says_of_file r later before now (Err verdict.Accepted) h = (r, refl, h)
+-- of the text that is asked for
+says_asked : (r : Request) (later : Option (List (List ℕ))) (before now : ℕ) (judged : Result Plan Verdict) → SaysOfText (text_from r.origin later) r.deed judged → Says (Some r) later before now judged
+says_asked r later before now (Ok plan) h = (r, refl, h)
+says_asked r later before now (Err verdict.Usage) h = absurd h
+says_asked r later before now (Err verdict.Unread) h = absurd h
+says_asked r later before now (Err verdict.NoMemory) h = tt
+says_asked r later before now (Err (verdict.NoProgram message)) h = (r, refl, h)
+says_asked r later before now (Err (verdict.PastLimit passed)) h = (r, refl, h)
+says_asked r later before now (Err (verdict.Refused message)) h = (r, refl, h)
+says_asked r later before now (Err verdict.NotBuilt) h = (r, refl, h)
+says_asked r later before now (Err verdict.OtherInputs) h = (r, refl, h)
+says_asked r later before now (Err (verdict.Finished printed trace)) h = (r, refl, h)
+says_asked r later before now (Err (verdict.Faulted printed message)) h = (r, refl, h)
+says_asked r later before now (Err verdict.Accepted) h = (r, refl, h)
 
-pub says_asked : (r : Request) (later : Option (List (List ℕ))) (read : List ℕ) (left : Option (List ℕ)) (judged : Result Plan Verdict) (before now : ℕ) →
-    Moves (option_map next_left later) read left → (length read ≤ 1048576 → IfSome left (λ rest. rest ≡ [])) → Judges read r.deed judged → Says (Some r) later before now judged
-says_asked r later read left judged before now moves whole h = says_of_file r later before now judged (says_of_text later read left r.deed judged before now moves whole h)
+-- a file's
+pub says_of_file : (name : List ℕ) (deed : Deed) (later : Option (List (List ℕ))) (read : List ℕ) (left : Option (List ℕ)) (judged : Result Plan Verdict) (before now : ℕ) →
+    Moves (option_map next_left later) read left → (length read ≤ 1048576 → IfSome left (λ rest. rest ≡ [])) → Judges read deed judged → Says (Some (asked_of_file name deed)) later before now judged
+says_of_file name deed later read left judged before now moves whole h =
+    says_asked (asked_of_file name deed) later before now judged (says_of_text (option_map next_left later) read left deed judged moves whole h)
+
+-- one that can't be read
+pub cant_be_read : (name : List ℕ) (deed : Deed) (before now : ℕ) → Rose before now → CantBeRead (Some (asked_of_file name deed)) before now
+cant_be_read name deed before now rose = record { of_file = λ none. none; rose = rose }
+
+-- and a sample's
+pub says_of_sample : (colours : ℕ) (deed : Deed) (later : Option (List (List ℕ))) (judged : Result Plan Verdict) (before now : ℕ) →
+    Judges (sample_text colours) deed judged → Says (Some (record { origin = sample colours; deed = deed })) later before now judged
+says_of_sample colours deed later judged before now h =
+    says_asked (record { origin = sample colours; deed = deed }) later before now judged (says_of_read deed judged (sample_text colours) h)
+
+-- what words ask for that say a command
+pub asked_is : (words : List (List ℕ)) (said : Command) (asked : Request) → command words ≡ Some said → asked ≡ asked_by said → request words ≡ Some asked
+asked_is words said asked taken is = ap (option_map asked_by) taken ∙ ap Some (sym is)
 
 -- a token's fault that passes no limit is an error of syntax
 syntax_told : (kind : LexKind) (line : ℕ) → None ≡ limit_in_token kind → syntax_line (Lex kind line) ≡ Some line

@@ -1,5 +1,5 @@
 -- From the run of a plan to what the program means.
-use Rattle.std.proofs.Common.{◌≡◌, ◌↔◌, ◌∙◌, ◌<◌, ◌^◌, ◌++◌, ℕ, ℤ, Bool, true, false, List, [], ◌∷◌, Option, Some, None, unwrap_or, Result, Ok, Err, IfOk, ap, refl, subst, sym}
+use Rattle.std.proofs.Common.{◌≡◌, ◌↔◌, ◌∙◌, ◌<◌, ◌^◌, ◌++◌, ℕ, ℤ, Bool, true, false, List, [], ◌∷◌, Option, Some, None, unwrap_or, Result, Ok, Err, IfOk, IfSome, ap, refl, subst, sym}
 use Rattle.check_rules.specs.Acceptance.{input_widths}
 use Rattle.check_rules.specs.Breaches.{breaches}
 use Rattle.code_laws.proofs.LocalRuns.{accepted_programs_end_well, accepted_programs_run_as_meant}
@@ -29,7 +29,8 @@ use Rattle.task_code.specs.declared.job.Job.{Job}
 use Rattle.regent_run.specs.declared.verdict.Verdict.{Verdict}
 use Rattle.regent_run.specs.declared.verdict.Verdict.TheVariants as verdict
 use Rattle.regent_run.specs.Inputs.{AreInputs}
-use Rattle.regent_run.specs.Programs.{Finishes, IsFinished, IsRun, Means, OfNextText, faulted_with, finished_with}
+use Rattle.regent_run.specs.Origins.{text_asked}
+use Rattle.regent_run.specs.Programs.{Finishes, IsFinished, IsRun, Means, faulted_with, finished_with}
 use Rattle.regent_run.specs.Texts.{dump_by, dump_text}
 use Rattle.regent_run.specs.Traces.{FinishesJob, IsJournalOf, IsTrace, by_workers, in_order, no_result, not_asked, other_job, serving, trace_by}
 use Rattle.regent_run.specs.Verdicts.{IsOfOutcome, IsPlan, IsSound, Says, Tells, TellsPlan}
@@ -154,18 +155,18 @@ trace_on traces workers trace on (by_workers journal some is) = by_workers journ
 trace_on traces workers trace on (other_job some) = other_job some
 trace_on traces workers trace on (no_result some) = no_result some
 
-of_next : {P Q : List ℕ → Type 0} (later : Option (List (List ℕ))) → ((text : List ℕ) → P text → Q text) → OfNextText later P → OfNextText later Q
-of_next None on h = tt
-of_next (Some texts) on h = on _ h
+some_on : {P Q : List ℕ → Type 0} (told : Option (List ℕ)) → ((text : List ℕ) → P text → Q text) → IfSome told P → IfSome told Q
+some_on None on h = tt
+some_on (Some text) on h = on text h
 
 -- the trace of a plan's run is one of the run of the text
-text_traced : (serves : ℕ → ℕ) (later : Option (List (List ℕ))) (tree : Tree) (r : Run) (plan : Plan) (trace : List ℕ) → OfNextText later (λ text. Reads text (Ok tree)) → IsPlan tree r plan →
-    IsTrace (FinishesJob plan.job) plan.traces (serves plan.workers) trace → IsTrace (λ journal. OfNextText later (λ text. IsJournalOf text r journal)) r.traces (serving serves r) trace
-text_traced serves later tree r plan trace reads is h =
+text_traced : (serves : ℕ → ℕ) (told : Option (List ℕ)) (tree : Tree) (r : Run) (plan : Plan) (trace : List ℕ) → IfSome told (λ text. Reads text (Ok tree)) → IsPlan tree r plan →
+    IsTrace (FinishesJob plan.job) plan.traces (serves plan.workers) trace → IsTrace (λ journal. IfSome told (λ text. IsJournalOf text r journal)) r.traces (serving serves r) trace
+text_traced serves told tree r plan trace reads is h =
     let asked : IsTrace (FinishesJob plan.job) r.traces (serving serves r) trace =
     subst (λ (n : ℕ). IsTrace (FinishesJob plan.job) r.traces (serves n) trace) is.workers (subst (λ (b : Bool). IsTrace (FinishesJob plan.job) b (serves plan.workers) trace) is.traces h) in
     trace_on r.traces (serving serves r) trace
-    (λ journal finishes. of_next {P = λ text. Reads text (Ok tree)} {Q = λ text. IsJournalOf text r journal} later
+    (λ journal finishes. some_on {P = λ text. Reads text (Ok tree)} {Q = λ text. IsJournalOf text r journal} told
     (λ text read. record { tree = tree; reads = read; journal_is = record { inputs = is.inputs; given = is.given; finishes = subst (λ (j : Job). FinishesJob j journal) is.job finishes } })
     reads) asked
 
@@ -215,17 +216,19 @@ told_run serves asked later before now plan (verdict.Finished output trace) said
     let p = said.2 in
     let t = h.told in
     let bytes : IsTrace (FinishesJob plan.job) plan.traces (serves plan.workers) trace.items = subst (λ (b : List ℕ). IsTrace (FinishesJob plan.job) plan.traces (serves plan.workers) b) (sym t.0) h.traced in
-    let ends : OfNextText later (λ text. IsFinished text p.0 output) =
-    of_next {P = λ text. Reads text (Ok p.2)} {Q = λ text. IsFinished text p.0 output} later
+    let text : Option (List ℕ) = text_asked asked later in
+    let ends : IfSome text (λ text. IsFinished text p.0 output) =
+    some_on {P = λ text. Reads text (Ok p.2)} {Q = λ text. IsFinished text p.0 output} text
     (λ text read. record { tree = p.2; reads = read; sound = p.4.program.accepted; finishes = plan_finishes p.2 p.0 plan t.1 output t.2 p.4 t.3 t.4 }) p.3 in
-    (said.0, said.1, (p.0, p.1, text_traced serves later p.2 p.0 plan trace.items p.3 p.4 bytes, ends))
+    (said.0, said.1, (p.0, p.1, text_traced serves text p.2 p.0 plan trace.items p.3 p.4 bytes, ends))
 told_run serves asked later before now plan (verdict.Faulted printed message) said h =
     let p = said.2 in
     let t = h.told in
-    let faults : OfNextText later (λ text. IsRun text p.0 (faulted_with printed t.0)) =
-    of_next {P = λ text. Reads text (Ok p.2)} {Q = λ text. IsRun text p.0 (faulted_with printed t.0)} later
+    let text : Option (List ℕ) = text_asked asked later in
+    let faults : IfSome text (λ text. IsRun text p.0 (faulted_with printed t.0)) =
+    some_on {P = λ text. Reads text (Ok p.2)} {Q = λ text. IsRun text p.0 (faulted_with printed t.0)} text
     (λ text read. record { tree = p.2; reads = read; sound = p.4.program.accepted; means = plan_run p.2 p.0 plan (faulted_with printed t.0) p.4 t.2 }) p.3 in
-    (said.0, said.1, (p.0, p.1, t.0, h.trace, t.1, text_traced serves later p.2 p.0 plan h.trace p.3 p.4 h.traced, faults))
+    (said.0, said.1, (p.0, p.1, t.0, h.trace, t.1, text_traced serves text p.2 p.0 plan h.trace p.3 p.4 h.traced, faults))
 told_run serves asked later before now plan verdict.Accepted said h = absurd h.told
 
 -- it is the plan of a sound run

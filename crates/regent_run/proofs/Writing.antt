@@ -43,7 +43,7 @@ Telling call v = (out_text v ≡ []) × Fails call (status_of v) (err_text v)
 
 pub prints_or_tells : (call : Call) (v : Verdict) → Tells call.serves (request call.words) call.source.later call.source.faults call.source.faults_now v → Printing call v ⊎ Telling call v
 prints_or_tells call verdict.Usage said = inr (refl, usage said)
-prints_or_tells call verdict.Unread said = inr (refl, unread said.2)
+prints_or_tells call verdict.Unread said = inr (refl, unread said)
 prints_or_tells call verdict.NoMemory said = inr (refl, no_memory)
 prints_or_tells call (verdict.NoProgram message) said =
     let told = said.2 in

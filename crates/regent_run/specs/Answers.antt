@@ -7,19 +7,21 @@ use Rattle.run_io.specs.Source.{next_left}
 use Rattle.regent_tree.specs.declared.outcome.Fault.{Fault}
 use Rattle.command_words.specs.Commands.{Run}
 use Rattle.run_report.specs.FaultLines.{fault_text}
-use Rattle.regent_run.specs.Begins.{IsBegunBy, IsUnbegun}
+use Rattle.regent_run.specs.Begins.{IsBegunFor, IsUnbegun}
 use Rattle.regent_run.specs.Calls.{Call}
 use Rattle.regent_run.specs.declared.limit.Limit.{Limit}
-use Rattle.regent_run.specs.Programs.{Comes, HasBreach, HasOtherInputs, HasSyntaxError, IsAccepted, IsFinished, IsNotBuilt, IsRun, OfNextText, PassesLimit, faulted_with}
+use Rattle.regent_run.specs.Origins.{begun_for, text_asked}
+use Rattle.regent_run.specs.Programs.{Comes, HasBreach, HasOtherInputs, HasSyntaxError, IsAccepted, IsFinished, IsNotBuilt, IsRun, PassesLimit, faulted_with}
 use Rattle.regent_run.specs.Reading.{TakesAtMost}
 use Rattle.regent_run.specs.Texts.{accepted_text, usage_message, read_message, memory_message, syntax_message, breach_message, limit_message, not_built_message, inputs_message}
 use Rattle.regent_run.specs.Traces.{IsJournalOf, IsTrace, serving}
-use Rattle.regent_run.specs.Verdicts.{HasFailed, HasGained, IsUntouched}
+use Rattle.regent_run.specs.Verdicts.{CantBeRead, HasFailed, HasGained, IsUntouched}
 use Rattle.regent_run.specs.Words.{Asks, Request, checks, request, runs}
 
--- this holds of the text that the call's next begin leaves, where the source tells it
+-- This holds of the text of the call: of the one that its begin of the source leaves, where the source tells it, or of
+-- the sample.
 abbrev pub OfText : Call → (List ℕ → Type 0) → Type 0
-OfText call P = OfNextText call.source.later P
+OfText call P = IfSome (text_asked (request call.words) call.source.later) P
 
 -- ---- what a call comes to, and how it ends
 
@@ -43,7 +45,7 @@ pub data IsPrinted (call : Call) : ℕ → List ℕ → List ℕ → Type 0 wher
 -- the status of an error, and the line that tells it
 pub data Fails (call : Call) : ℕ → List ℕ → Type 0 where
   usage : request call.words ≡ None → Fails call 2 usage_message
-  unread : Rose call.source.faults call.source.faults_now → Fails call 3 read_message
+  unread : CantBeRead (request call.words) call.source.faults call.source.faults_now → Fails call 3 read_message
   syntax : (line : ℕ) → OfText call (λ text. HasSyntaxError text line) →
       Fails call 5 (syntax_message line)
   types : (rule line : ℕ) → OfText call (λ text. HasBreach text rule line) →
@@ -90,7 +92,7 @@ UnlessStopped status answer = (answer ≡ status) ⊎ ((answer ≡ 7) ⊎ (answe
 abbrev pub UnlessUnread : ℕ → ℕ → Type 0
 UnlessUnread status answer = UnlessStopped status answer ⊎ (answer ≡ 3)
 
--- where the words name a file, its text comes to this status alone, unless the call was stopped
+-- where the words ask for a text, it comes to this status alone, unless the call was stopped
 abbrev pub ComesTo : Call → ℕ → Type 0
 ComesTo call answer = (named : Request) → request call.words ≡ Some named →
     OfText call (λ text. (n : ℕ) → Comes text named.deed n → UnlessUnread n answer)
@@ -124,25 +126,21 @@ pub record IsSureOfErrors (call : Call) : Type 0 where
 
 -- the source wasn't begun
 abbrev pub IsNotBegun : Call → Type 0
-IsNotBegun call =
-    IsUnbegun call.source.begins call.source.begins_now call.source.names call.source.names_now
+IsNotBegun call = IsUnbegun call.source
 
--- the source was begun once more, by the file that the words name
-pub record IsBegunOnce (call : Call) : Type 0 where
-  pub named : Request
-  pub words_name : request call.words ≡ Some named
-  pub begun : IsBegunBy named.file call.source.begins call.source.begins_now
-      call.source.names call.source.names_now
+-- the source was begun once more, by the file that the words name, or not, where they ask for a sample
+abbrev pub IsBegunOnce : Call → Type 0
+IsBegunOnce call = IsBegunFor (request call.words) call.source
 
 -- of what the begin leaves at most so many bytes were taken
 abbrev pub Takes : ℕ → Call → Type 0
 Takes most call =
     TakesAtMost most (option_map next_left call.source.later) call.source.left call.source.left_now
 
--- a text that isn't too long was read to its end
+-- a file's text that isn't too long was read to its end
 abbrev pub IsReadWhole : Call → Type 0
-IsReadWhole call =
-    OfText call (λ text. length text ≤ 1048576 → IfSome call.source.left_now (λ rest. rest ≡ []))
+IsReadWhole call = IfSome (begun_for (request call.words) call.source.later)
+    (λ text. length text ≤ 1048576 → IfSome call.source.left_now (λ rest. rest ≡ []))
 
 -- the status of a text that was read: none of those before
 abbrev pub IsOfText : ℕ → Type 0
@@ -166,7 +164,7 @@ pub record IsAnswered (call : Call) (answer : ℕ) : Type 0 where
   pub read : answer ≢ 3 → answer ≢ 4 → call.source.faults_now ≡ call.source.faults
   pub steady : answer ≢ 4 →
       (call.out.faults_now ≡ call.out.faults) × (call.err.faults_now ≡ call.err.faults)
-  -- The source is begun once at most, by the file that the words name.
+  -- The source is begun once at most, by the file that the words name, and not for a sample.
   pub begins : IsNotBegun call ⊎ IsBegunOnce call
   pub begun : IsOfText answer → IsBegunOnce call
   pub takes : Takes 1048577 call

@@ -3,35 +3,35 @@ use Rattle.std.specs.Prelude.{◌≡◌, ◌⊎◌, ℕ, List, Option, Some, Res
 use Rattle.std.specs.Option.{option_map}
 use Rattle.run_io.specs.Faults.{one_more}
 use Rattle.run_io.specs.Source.{with_name}
+use Rattle.regent_run.specs.Calls.{SourceChange}
 use Rattle.regent_run.specs.declared.plan.Plan.{Plan}
 use Rattle.regent_run.specs.declared.verdict.Verdict.{Verdict}
 use Rattle.regent_run.specs.declared.verdict.Verdict.TheVariants.{Usage, NoMemory}
-use Rattle.regent_run.specs.Words.{Request}
+use Rattle.regent_run.specs.Words.{Origin, Request, file, sample}
 
 -- the source was begun once more, by this name
-pub record IsBegunBy (file : List ℕ) (begins begins_now : Option ℕ)
-    (names names_now : Option (List (List ℕ))) : Type 0 where
-  pub counted : begins_now ≡ option_map one_more begins
-  pub noted : names_now ≡ option_map (with_name file) names
+pub record IsBegunBy (name : List ℕ) (source : SourceChange) : Type 0 where
+  pub counted : source.begins_now ≡ option_map one_more source.begins
+  pub noted : source.names_now ≡ option_map (with_name name) source.names
 
 -- the source wasn't begun
-pub record IsUnbegun (begins begins_now : Option ℕ)
-    (names names_now : Option (List (List ℕ))) : Type 0 where
-  pub counted : begins_now ≡ begins
-  pub noted : names_now ≡ names
+pub record IsUnbegun (source : SourceChange) : Type 0 where
+  pub counted : source.begins_now ≡ source.begins
+  pub noted : source.names_now ≡ source.names
 
--- begun by the file that is asked for
-pub record BeginsNamed (asked : Option Request) (begins begins_now : Option ℕ)
-    (names names_now : Option (List (List ℕ))) : Type 0 where
+-- a file begins the source by its name, and a sample doesn't
+abbrev pub IsBegunFrom : Origin → SourceChange → Type 0
+IsBegunFrom (file name) source = IsBegunBy name source
+IsBegunFrom (sample colours) source = IsUnbegun source
+
+-- begun as this is asked for
+pub record IsBegunFor (asked : Option Request) (source : SourceChange) : Type 0 where
   pub named : Request
   pub is_asked : asked ≡ Some named
-  pub begun : IsBegunBy named.file begins begins_now names names_now
+  pub begun : IsBegunFrom named.origin source
 
 -- Where the words are refused, not begun; where memory ran out maybe not.
-abbrev pub Begins : Option Request → Option ℕ → Option ℕ →
-    Option (List (List ℕ)) → Option (List (List ℕ)) → Result Plan Verdict → Type 0
-Begins asked begins begins_now names names_now (Err Usage) = IsUnbegun begins begins_now names names_now
-Begins asked begins begins_now names names_now (Err NoMemory) =
-    IsUnbegun begins begins_now names names_now ⊎ BeginsNamed asked begins begins_now names names_now
-Begins asked begins begins_now names names_now _ =
-    BeginsNamed asked begins begins_now names names_now
+abbrev pub Begins : Option Request → SourceChange → Result Plan Verdict → Type 0
+Begins asked source (Err Usage) = IsUnbegun source
+Begins asked source (Err NoMemory) = IsUnbegun source ⊎ IsBegunFor asked source
+Begins asked source _ = IsBegunFor asked source

@@ -2,6 +2,7 @@ pub mod Answers
 pub mod Begins
 pub mod Calls
 pub mod Inputs
+pub mod Origins
 pub mod Programs
 pub mod Reading
 pub mod Texts

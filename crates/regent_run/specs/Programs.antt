@@ -1,5 +1,5 @@
 -- What a text comes to, by what is to be done with it.
-use Rattle.std.specs.Prelude.{Contains, Err, IfSome, List, None, Ok, Option, Some, false, true, [], ℕ, ℤ, ◌≡◌, ◌++◌, ◌⊎◌}
+use Rattle.std.specs.Prelude.{Contains, Err, List, None, Ok, Option, Some, false, true, [], ℕ, ℤ, ◌≡◌, ◌++◌, ◌⊎◌}
 use Rattle.check_rules.specs.Acceptance.{input_widths}
 use Rattle.check_rules.specs.Breaches.{breaches, breaks}
 use Rattle.regent_lex.specs.declared.fault.LexKind.{LexKind}
@@ -15,7 +15,6 @@ use Rattle.regent_tree.specs.Syntax.{Tree}
 use Rattle.regent_reader.specs.declared.fault.ReadFault.{ReadFault}
 use Rattle.regent_reader.specs.declared.fault.ReadFault.TheVariants.{TooLong, Lex, TooDeep, NoProgram, TooMany}
 use Rattle.regent_reader.specs.Texts.{Reads}
-use Rattle.run_io.specs.Source.{next_left}
 use Rattle.local_form.specs.LocalForm.{is_local_program}
 use Rattle.regent_run.specs.declared.limit.Limit.{Limit}
 use Rattle.regent_run.specs.declared.limit.Limit.TheVariants as limit
@@ -146,10 +145,6 @@ pub data Comes (text : List ℕ) : Deed → ℕ → Type 0 where
   passes_a_limit : {deed : Deed} {passed : Limit} → PassesLimit text passed → Comes text deed 8
   has_other_inputs : {r : Run} → HasOtherInputs text r.numbers → Comes text (runs r) 9
   is_not_built : {r : Run} → IsNotBuilt text → Comes text (runs r) 10
-
--- what holds of the text that the next begin leaves, where the source tells it
-abbrev pub OfNextText : Option (List (List ℕ)) → (List ℕ → Type 0) → Type 0
-OfNextText later P = IfSome later (λ texts. P (next_left texts))
 
 -- ---- laws of statuses
 

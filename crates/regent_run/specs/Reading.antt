@@ -1,17 +1,14 @@
 -- What reading a text takes from its source.
 use Rattle.std.specs.Prelude.{◌≡◌, ◌≤◌, ◌⊎◌, ℕ, List, [], Option, Result, Err, IfSome, length}
-use Rattle.run_io.specs.Faults.{Rose}
-use Rattle.run_io.specs.Source.{Moves}
-use Rattle.regent_run.specs.declared.text.NoText.{NoText}
-use Rattle.regent_run.specs.declared.text.NoText.TheVariants as no_text
+use Rattle.std.specs.Option.{option_map}
+use Rattle.run_io.specs.Source.{Moves, next_left}
+use Rattle.regent_run.specs.Begins.{Begins}
+use Rattle.regent_run.specs.Calls.{SourceChange}
+use Rattle.regent_run.specs.Origins.{begun_for}
+use Rattle.regent_run.specs.Words.{Request}
 use Rattle.regent_run.specs.declared.plan.Plan.{Plan}
 use Rattle.regent_run.specs.declared.verdict.Verdict.{Verdict}
 use Rattle.regent_run.specs.declared.verdict.Verdict.TheVariants.{Usage, Unread, NoMemory}
-
--- what a text that can't be had says of the source's count of faults
-abbrev pub IsCause : ℕ → ℕ → NoText → Type 0
-IsCause before now no_text.Failed = Rose before now
-IsCause before now no_text.Memory = now ≡ before
 
 -- no call of the source failed, but where the text can't be read
 abbrev pub IsSteady : ℕ → ℕ → Result Plan Verdict → Type 0
@@ -31,3 +28,11 @@ ReadsToEnd begun now (Err Unread) = Unit {0}
 ReadsToEnd begun now (Err NoMemory) = Unit {0}
 ReadsToEnd begun now _ =
     IfSome begun (λ text. length text ≤ 1048576 → IfSome now (λ left. left ≡ []))
+
+-- What a call takes from its source: where a text came to something it was begun as asked for and read to its end, what
+-- was taken is bounded, and no call of it failed but where the text can't be read.
+pub record UsesSource (asked : Option Request) (source : SourceChange) (judged : Result Plan Verdict) : Type 0 where
+  pub begins : Begins asked source judged
+  pub takes : TakesAtMost 1048577 (option_map next_left source.later) source.left source.left_now
+  pub whole : ReadsToEnd (begun_for asked source.later) source.left_now judged
+  pub steady : IsSteady source.faults source.faults_now judged

@@ -1,5 +1,5 @@
 -- What a call comes to before it writes, and what it then writes.
-use Rattle.std.specs.Prelude.{◌≡◌, ◌<◌, ◌^◌, ◌⊎◌, ◌++◌, ℕ, ℤ, false, Contains, List, [], Option, Some, None, Result, Ok, Err, length, string_bytes}
+use Rattle.std.specs.Prelude.{◌≡◌, ◌<◌, ◌^◌, ◌⊎◌, ◌++◌, ℕ, ℤ, false, Contains, List, [], Option, Some, None, Result, Ok, Err, IfSome, length, string_bytes}
 use Rattle.run_io.specs.Faults.{Rose}
 use Rattle.run_io.specs.Sink.{Adds, AddsPrefix}
 use Rattle.regent_run.specs.Calls.{SinkChange}
@@ -7,7 +7,7 @@ use Rattle.regent_run.specs.declared.verdict.Verdict.{Verdict}
 use Rattle.regent_run.specs.declared.verdict.Verdict.TheVariants.{Usage, Unread, NoMemory, NoProgram, PastLimit, Refused, NotBuilt, OtherInputs, Finished, Faulted, Accepted}
 use Rattle.command_words.specs.Commands.{Run, turns_or_default, workers_or_default}
 use Rattle.regent_run.specs.Traces.{FinishesJob, IsJournalOf, IsTrace, serving}
-use Rattle.regent_run.specs.Words.{Deed, Request, checks, runs}
+use Rattle.regent_run.specs.Words.{AsksNoFile, Deed, Request, checks, runs}
 use Rattle.regent_run.specs.Texts.{accepted_text, dump_by, usage_message, read_message, memory_message, syntax_message, breach_message, limit_message, not_built_message, inputs_message}
 use Rattle.check_rules.specs.Acceptance.{input_widths}
 use Rattle.check_rules.specs.Breaches.{breaches, breaks}
@@ -21,11 +21,12 @@ use Rattle.run_report.specs.Dumps.{roots_of}
 use Rattle.run_report.specs.FaultLines.{fault_text}
 use Rattle.regent_reader.specs.Texts.{Reads}
 use Rattle.regent_run.specs.Inputs.{AreInputs}
+use Rattle.regent_run.specs.Origins.{text_asked}
 use Rattle.regent_run.specs.declared.plan.Plan.{Plan}
 use Rattle.regent_tree.specs.Syntax.{Tree}
 use Rattle.regent_reader.specs.declared.fault.ReadFault.{ReadFault}
 use Rattle.local_form.specs.LocalForm.{is_local_program}
-use Rattle.regent_run.specs.Programs.{HasBreach, HasOtherInputs, HasSyntaxError, IsAccepted, IsFinished, IsNotBuilt, IsRun, OfNextText, PassesLimit, TakesOthers, faulted_with, finished_with, limit_passed, syntax_line}
+use Rattle.regent_run.specs.Programs.{HasBreach, HasOtherInputs, HasSyntaxError, IsAccepted, IsFinished, IsNotBuilt, IsRun, PassesLimit, TakesOthers, faulted_with, finished_with, limit_passed, syntax_line}
 
 abbrev pub status_of : Verdict → ℕ
 status_of Usage = 2
@@ -128,33 +129,39 @@ TellsFault fault (NoProgram message) =
 TellsFault fault (PastLimit passed) = limit_passed fault ≡ Some passed
 TellsFault fault _ = ⊥
 
--- the same of the text that the next begin leaves, and of the source's count of faults before and after
-abbrev pub SaysOfText : Option (List (List ℕ)) → Deed → ℕ → ℕ → Result Plan Verdict → Type 0
-SaysOfText later deed before now (Ok plan) = (r : Run) × (deed ≡ runs r) × (tree : Tree)
-    × OfNextText later (λ text. Reads text (Ok tree)) × IsPlan tree r plan
-SaysOfText later deed before now (Err Unread) = Rose before now
-SaysOfText later deed before now (Err NoMemory) = Unit {0}
-SaysOfText later deed before now (Err (NoProgram message)) =
+-- the same of a text where it is told
+abbrev pub SaysOfText : Option (List ℕ) → Deed → Result Plan Verdict → Type 0
+SaysOfText told deed (Ok plan) = (r : Run) × (deed ≡ runs r) × (tree : Tree)
+    × IfSome told (λ text. Reads text (Ok tree)) × IsPlan tree r plan
+SaysOfText told deed (Err NoMemory) = Unit {0}
+SaysOfText told deed (Err (NoProgram message)) =
     (line : ℕ) × (string_bytes message ≡ syntax_message line)
-    × OfNextText later (λ text. HasSyntaxError text line)
-SaysOfText later deed before now (Err (PastLimit passed)) =
-    OfNextText later (λ text. PassesLimit text passed)
-SaysOfText later deed before now (Err (Refused message)) = (rule : ℕ) × (line : ℕ)
+    × IfSome told (λ text. HasSyntaxError text line)
+SaysOfText told deed (Err (PastLimit passed)) =
+    IfSome told (λ text. PassesLimit text passed)
+SaysOfText told deed (Err (Refused message)) = (rule : ℕ) × (line : ℕ)
     × (string_bytes message ≡ breach_message rule line)
-    × OfNextText later (λ text. HasBreach text rule line)
-SaysOfText later deed before now (Err NotBuilt) =
-    (r : Run) × (deed ≡ runs r) × OfNextText later IsNotBuilt
-SaysOfText later deed before now (Err OtherInputs) = (r : Run) × (deed ≡ runs r)
-    × OfNextText later (λ text. HasOtherInputs text r.numbers)
-SaysOfText later deed before now (Err Accepted) = (deed ≡ checks) × OfNextText later IsAccepted
-SaysOfText later deed before now (Err _) = ⊥
+    × IfSome told (λ text. HasBreach text rule line)
+SaysOfText told deed (Err NotBuilt) =
+    (r : Run) × (deed ≡ runs r) × IfSome told IsNotBuilt
+SaysOfText told deed (Err OtherInputs) = (r : Run) × (deed ≡ runs r)
+    × IfSome told (λ text. HasOtherInputs text r.numbers)
+SaysOfText told deed (Err Accepted) = (deed ≡ checks) × IfSome told IsAccepted
+SaysOfText told deed (Err _) = ⊥
 
--- Where this is asked for: nothing can be done, or the text of the file comes to it, or memory ran out.
+-- a file is asked for, and the source's count of faults rose
+pub record CantBeRead (asked : Option Request) (before now : ℕ) : Type 0 where
+  pub of_file : AsksNoFile asked → ⊥
+  pub rose : Rose before now
+
+-- Where this is asked for: nothing can be done, or its text can't be read, or the text comes to it, or memory ran out. The
+-- numbers are the source's count of faults before and after.
 abbrev pub Says : Option Request → Option (List (List ℕ)) → ℕ → ℕ → Result Plan Verdict → Type 0
 Says asked later before now (Err Usage) = asked ≡ None
+Says asked later before now (Err Unread) = CantBeRead asked before now
 Says asked later before now (Err NoMemory) = Unit {0}
 Says asked later before now judged =
-    (named : Request) × (asked ≡ Some named) × SaysOfText later named.deed before now judged
+    (named : Request) × (asked ≡ Some named) × SaysOfText (text_asked asked later) named.deed judged
 
 -- ---- with the run
 
@@ -178,23 +185,24 @@ abbrev pub TellsPlan : (ℕ → ℕ) → Plan → Verdict → Type 0
 TellsPlan serves plan NoMemory = Unit {0}
 TellsPlan serves plan v = IsOfRun serves plan v
 
--- What a verdict says of the text that the next begin leaves, where so many workers serve.
-abbrev pub TellsOfText : (ℕ → ℕ) → Option (List (List ℕ)) → Deed → ℕ → ℕ → Verdict → Type 0
-TellsOfText serves later deed before now (Finished printed trace) = (r : Run) × (deed ≡ runs r)
-    × IsTrace (λ journal. OfNextText later (λ text. IsJournalOf text r journal)) r.traces (serving serves r) trace.items
-    × OfNextText later (λ text. IsFinished text r printed)
-TellsOfText serves later deed before now (Faulted printed message) = (r : Run) × (deed ≡ runs r) × (f : Fault) × (trace : List ℕ)
+-- What a verdict says of a text where it is told, where so many workers serve.
+abbrev pub TellsOfText : (ℕ → ℕ) → Option (List ℕ) → Deed → Verdict → Type 0
+TellsOfText serves told deed (Finished printed trace) = (r : Run) × (deed ≡ runs r)
+    × IsTrace (λ journal. IfSome told (λ text. IsJournalOf text r journal)) r.traces (serving serves r) trace.items
+    × IfSome told (λ text. IsFinished text r printed)
+TellsOfText serves told deed (Faulted printed message) = (r : Run) × (deed ≡ runs r) × (f : Fault) × (trace : List ℕ)
     × (message.items ≡ trace ++ fault_text f)
-    × IsTrace (λ journal. OfNextText later (λ text. IsJournalOf text r journal)) r.traces (serving serves r) trace
-    × OfNextText later (λ text. IsRun text r (faulted_with printed f))
-TellsOfText serves later deed before now v = SaysOfText later deed before now (Err v)
+    × IsTrace (λ journal. IfSome told (λ text. IsJournalOf text r journal)) r.traces (serving serves r) trace
+    × IfSome told (λ text. IsRun text r (faulted_with printed f))
+TellsOfText serves told deed v = SaysOfText told deed (Err v)
 
 -- and where this is asked for
 abbrev pub Tells : (ℕ → ℕ) → Option Request → Option (List (List ℕ)) → ℕ → ℕ → Verdict → Type 0
 Tells serves asked later before now Usage = asked ≡ None
+Tells serves asked later before now Unread = CantBeRead asked before now
 Tells serves asked later before now NoMemory = Unit {0}
 Tells serves asked later before now v =
-    (named : Request) × (asked ≡ Some named) × TellsOfText serves later named.deed before now v
+    (named : Request) × (asked ≡ Some named) × TellsOfText serves (text_asked asked later) named.deed v
 
 -- the message of a line, unless memory ran out
 abbrev pub IsNoProgram : ℕ → Verdict → Type 0

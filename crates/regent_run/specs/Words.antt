@@ -1,43 +1,66 @@
 -- What the words of the command line ask for.
-use Rattle.std.specs.Prelude.{ℕ, ◌≡◌, List, Option, Some, None, option_and_then}
+use Rattle.std.specs.Prelude.{ℕ, ◌≡◌, List, Option, Some, None, option_map}
 use Rattle.command_words.specs.Commands.{Command, Run, command}
 use Rattle.command_words.specs.Commands as said
 use Rattle.command_words.specs.Given.{run_given}
 use Rattle.regent_run.specs.declared.requests.Deed.{Deed as LentDeed}
 use Rattle.regent_run.specs.declared.requests.Deed.TheVariants as deed
+use Rattle.regent_run.specs.declared.requests.Origin.{Origin as LentOrigin}
+use Rattle.regent_run.specs.declared.requests.Origin.TheVariants as origin
 use Rattle.regent_run.specs.declared.requests.Request.{Request as LentRequest}
 
--- what is to be done with the text of a file: its program is run, or it is checked
+-- where a text comes from: it is that of a file, or the sample of so many colours
+pub data Origin : Type 0 where
+  file : List ℕ → Origin
+  sample : ℕ → Origin
+
+-- what is to be done with a text: its program is run, or it is checked
 pub data Deed : Type 0 where
   runs : Run → Deed
   checks : Deed
 
--- a file, and what is to be done with its text
+-- a text, and what is to be done with it
 pub record Request : Type 0 where
-  pub file : List ℕ
+  pub origin : Origin
   pub deed : Deed
 
--- What a command asks for. None where it can't be done yet: a sample.
-abbrev pub asked_by : Command → Option Request
-asked_by (said.runs r) = Some (record { file = r.file; deed = runs r })
-asked_by (said.checks file) = Some (record { file = file; deed = checks })
-asked_by (said.samples workers cells) = None
+abbrev pub asked_of_file : List ℕ → Deed → Request
+asked_of_file name deed = record { origin = file name; deed = deed }
 
--- What the words ask for. None where they are refused: they say no command, or one that can't be done yet.
+-- what a command asks for
+abbrev pub asked_by : Command → Request
+asked_by (said.runs name r) = asked_of_file name (runs r)
+asked_by (said.checks name) = asked_of_file name checks
+asked_by (said.samples colours r) = record { origin = sample colours; deed = runs r }
+
+-- What the words ask for. None where they are refused: they say no command.
 abbrev pub request : List (List ℕ) → Option Request
-request words = option_and_then asked_by (command words)
+request words = option_map asked_by (command words)
 
--- the words name a file, and this is to be done with it
+-- the words ask for this to be done with a text
 pub record Asks (words : List (List ℕ)) (deed : Deed) : Type 0 where
   pub named : Request
   pub words_name : request words ≡ Some named
   pub same : named.deed ≡ deed
 
+-- no file is asked for: the words are refused, or ask for a sample
+abbrev pub IsNoFile : Origin → Type 0
+IsNoFile (file name) = ⊥
+IsNoFile (sample colours) = Unit {0}
+
+abbrev pub AsksNoFile : Option Request → Type 0
+AsksNoFile None = Unit {0}
+AsksNoFile (Some named) = IsNoFile named.origin
+
 -- ---- the same as the code has it
+
+abbrev pub origin_given : LentOrigin → Origin
+origin_given (origin.File name) = file name.now
+origin_given (origin.Sample colours) = sample colours
 
 abbrev pub deed_given : LentDeed → Deed
 deed_given (deed.Run r) = runs (run_given r.now)
 deed_given deed.Check = checks
 
 abbrev pub request_given : LentRequest → Request
-request_given r = record { file = r.file.now; deed = deed_given r.deed }
+request_given r = record { origin = origin_given r.origin; deed = deed_given r.deed }

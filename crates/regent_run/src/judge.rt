@@ -1,30 +1,30 @@
 //! From words and a source to the plan of a run, or to what the call comes to without one.
 
-ghost use Rattle.std.specs.Prelude.{◌≡◌, ◌≤◌, [], None, Some};
-ghost use Rattle.std.specs.Option.{option_map};
+ghost use Rattle.std.specs.Prelude.{◌≡◌, [], Some};
 ghost use Rattle.check_rules.specs.Breaches.{breaches};
 ghost use Rattle.regent_tree.specs.Limits.{WithinLimits};
 ghost use Rattle.regent_tree.specs.PlainProgram.{tree_of};
 ghost use Rattle.regent_reader.specs.declared.fault.ReadFault.TheVariants.{Lex};
-ghost use Rattle.run_io.specs.Source.{next_left};
+ghost use Rattle.sample_maker.specs.Texts.{sample_text};
 ghost use Rattle.command_words.specs.Given.{texts};
-ghost use Rattle.regent_run.specs.Begins.{Begins};
+ghost use Rattle.regent_run.specs.Calls.{source_change};
 ghost use Rattle.regent_run.specs.Programs.{limit_counted, limit_in_token};
-ghost use Rattle.regent_run.specs.Reading.{IsSteady, TakesAtMost, ReadsToEnd};
+ghost use Rattle.regent_run.specs.Reading.{UsesSource};
 ghost use Rattle.regent_run.specs.Verdicts.{IsNoProgram, IsRefused, Judges, JudgesAccepted, JudgesProgram, TellsFault, Says};
-ghost use Rattle.regent_run.specs.Words.{deed_given, request, request_given};
+ghost use Rattle.regent_run.specs.Words.{AsksNoFile, IsNoFile, asked_of_file, deed_given, origin_given, request, request_given};
 
 use crate::limit::Limit;
 use crate::plan::{Plan, judge_run};
-use crate::requests::{Deed, Request, asked_by};
-use crate::text::{NoText, read_text};
+use crate::requests::{Deed, Origin, Request, asked_by};
+use crate::text::read_text;
 use crate::verdict::Verdict;
 use check_rules::Accepted;
 use command_words::{WordsFault, command};
 use regent_lex::LexKind;
 use regent_reader::{ReadFault, read};
 use regent_tree::{Counted, Program};
-use run_io::Source;
+use run_io::{NoRest, Source};
+use sample_maker::sample;
 use std::alloc::Global;
 use type_check::{CheckFault, check};
 
@@ -132,48 +132,62 @@ fn judge_text(alloc: Global, text: &[u8], deed: &Deed<'_, '_>) -> Result<Plan, V
 /// What the text of a file comes to.
 fn judge_file<S: Source>(
     alloc: Global,
-    asked: &Request<'_, '_>,
+    file: &str,
+    deed: &Deed<'_, '_>,
     source: &mut S,
 ) -> Result<Plan, Verdict>
-    ensures said { Says (Some (request_given asked.now)) (S.later source.old)
+    ensures said { Says (Some (asked_of_file file.now (deed_given deed.now))) (S.later source.old)
         (S.faults source.old) (S.faults source.new) result }
-    ensures begins { Begins (Some (request_given asked.now)) (S.begins source.old) (S.begins source.new)
-        (S.names source.old) (S.names source.new) result }
-    ensures takes { TakesAtMost 1048577 (option_map next_left (S.later source.old))
-        (S.left source.old) (S.left source.new) }
-    ensures end { ReadsToEnd (option_map next_left (S.later source.old)) (S.left source.new) result }
-    ensures faults { S.faults source.old ≤ S.faults source.new }
-    ensures steady { IsSteady (S.faults source.old) (S.faults source.new) result }
+    ensures uses { UsesSource (Some (asked_of_file file.now (deed_given deed.now)))
+        (source_change S.Source source.old source.new) result }
 {
-    let Ok(name) = String::from_str(alloc, asked.file) else {
+    let Ok(name) = String::from_str(alloc, file) else {
         return Err(Verdict::NoMemory);
     };
     match read_text(alloc, source, name) {
-        Ok(text) => judge_text(alloc, text.as_slice(), &asked.deed),
-        Err(NoText::Failed) => Err(Verdict::Unread),
-        Err(NoText::Memory) => Err(Verdict::NoMemory),
+        Ok(text) => judge_text(alloc, text.as_slice(), deed),
+        Err(NoRest::Failed) => Err(Verdict::Unread),
+        Err(NoRest::Memory) => Err(Verdict::NoMemory),
+    }
+}
+
+/// What the sample of so many colours comes to.
+fn judge_sample(alloc: Global, colours: u32, deed: &Deed<'_, '_>) -> Result<Plan, Verdict>
+    ensures { Judges (sample_text colours) (deed_given deed.now) result }
+{
+    match sample(alloc, colours) {
+        Ok(text) => judge_text(alloc, text.as_bytes(), deed),
+        Err(_) => Err(Verdict::NoMemory),
+    }
+}
+
+/// What comes of what is asked for.
+fn judge_request<S: Source>(
+    alloc: Global,
+    asked: &Request<'_, '_>,
+    source: &mut S,
+) -> Result<Plan, Verdict>
+    ensures untouched { IsNoFile (origin_given asked.now.origin) → source.new ≡ source.old }
+    ensures said { Says (Some (request_given asked.now)) (S.later source.old)
+        (S.faults source.old) (S.faults source.new) result }
+    ensures uses { UsesSource (Some (request_given asked.now)) (source_change S.Source source.old source.new) result }
+{
+    match asked.origin {
+        Origin::File(name) => judge_file(alloc, name, &asked.deed, source),
+        Origin::Sample(colours) => judge_sample(alloc, colours, &asked.deed),
     }
 }
 
 /// What the words and the source come to.
 pub fn judge<S: Source>(alloc: Global, words: &[String], source: &mut S) -> Result<Plan, Verdict>
-    ensures untouched { request (texts words.now) ≡ None → source.new ≡ source.old }
+    ensures untouched { AsksNoFile (request (texts words.now)) → source.new ≡ source.old }
     ensures said { Says (request (texts words.now)) (S.later source.old) (S.faults source.old) (S.faults source.new) result }
-    ensures begins { Begins (request (texts words.now)) (S.begins source.old) (S.begins source.new)
-        (S.names source.old) (S.names source.new) result }
-    ensures takes { TakesAtMost 1048577 (option_map next_left (S.later source.old))
-        (S.left source.old) (S.left source.new) }
-    ensures end { ReadsToEnd (option_map next_left (S.later source.old)) (S.left source.new) result }
-    ensures faults { S.faults source.old ≤ S.faults source.new }
-    ensures steady { IsSteady (S.faults source.old) (S.faults source.new) result }
+    ensures uses { UsesSource (request (texts words.now)) (source_change S.Source source.old source.new) result }
 {
     let said = match command(alloc, words) {
         Ok(said) => said,
         Err(WordsFault::Refused) => return Err(Verdict::Usage),
         Err(WordsFault::Memory(_)) => return Err(Verdict::NoMemory),
     };
-    match asked_by(&said) {
-        Some(asked) => judge_file(alloc, &asked, source),
-        None => Err(Verdict::Usage),
-    }
+    judge_request(alloc, &asked_by(&said), source)
 }

@@ -2,12 +2,12 @@
 //! and a status.
 #![tactic(auto)]
 
-ghost use Rattle.std.specs.Prelude.{◌≡◌, None};
+ghost use Rattle.std.specs.Prelude.{◌≡◌};
 ghost use Rattle.command_words.specs.Given.{texts};
 ghost use Rattle.regent_run.specs.Answers.{IsAnswered};
 ghost use Rattle.regent_run.specs.Calls.{call_of, sink_change, source_change};
 ghost use Rattle.regent_run.specs.Traces.{all_serve, none_serve};
-ghost use Rattle.regent_run.specs.Words.{request};
+ghost use Rattle.regent_run.specs.Words.{AsksNoFile, request};
 
 mod inputs;
 mod judge;
@@ -35,8 +35,8 @@ use worker_gate::Gate;
 /// Does what the words say, and gives the status. Programs are run by as many workers as the words name, 4 where they
 /// name none, in threads of the runtime and through the gate; with 0 workers they are run in order.
 ///
-/// The words are those that `command_words` takes; what can't be done yet, a sample, is refused as well. The
-/// file's text is that which the source leaves when it is begun by that name. The statuses: 0 the program finished
+/// The words are those that `command_words` takes. The text is that which the source leaves when it is begun by the
+/// file's name, or the sample of so many colours. The statuses: 0 the program finished
 /// or is accepted, 1 it faulted, 2 the words are refused, 3 the text can't be read, 4 a write failed, 5 the text is
 /// no program, 6 the program breaches a rule, 7 memory ran out, 8 the text passes a limit, 9 the numbers aren't
 /// those that the program takes, 10 the program can't be run yet. What is printed, or `accepted`, goes to `out`,
@@ -54,8 +54,8 @@ pub fn regent_run<S: Source, K: Sink, E: Sink, G: Gate, R: Threads + Wait + Sync
     ensures answers { IsAnswered (call_of (texts words.now.items) all_serve
         (source_change S.Source source.old source.new)
         (sink_change K.Sink out.old out.new) (sink_change E.Sink err.old err.new)) result }
-    // Where the words are refused, the source stays as it is.
-    ensures untouched { request (texts words.now.items) ≡ None → source.new ≡ source.old }
+    // Where the words are refused, or ask for a sample, the source stays as it is.
+    ensures untouched { AsksNoFile (request (texts words.now.items)) → source.new ≡ source.old }
 {
     let verdict = with_workers(rt, alloc, words.as_slice(), source, gate);
     verdict.deliver(out, err)
@@ -72,7 +72,7 @@ pub fn regent_alone<S: Source, K: Sink, E: Sink>(
     ensures answers { IsAnswered (call_of (texts words.now.items) none_serve
         (source_change S.Source source.old source.new)
         (sink_change K.Sink out.old out.new) (sink_change E.Sink err.old err.new)) result }
-    ensures untouched { request (texts words.now.items) ≡ None → source.new ≡ source.old }
+    ensures untouched { AsksNoFile (request (texts words.now.items)) → source.new ≡ source.old }
 {
     let verdict = alone(alloc, words.as_slice(), source);
     verdict.deliver(out, err)

@@ -1,12 +1,12 @@
 //! The program: from the words as they were had to a status.
 
-ghost use Rattle.std.specs.Prelude.{◌≡◌, ◌↔◌, ◌⊎◌, IfErr, IfOk, IsErr, None};
+ghost use Rattle.std.specs.Prelude.{◌≡◌, ◌↔◌, ◌⊎◌, IfErr, IfOk, IsErr};
 ghost use Rattle.std.specs.IoError.{error_kind};
 ghost use Rattle.command_words.specs.Given.{texts};
 ghost use Rattle.regent_run.specs.Answers.{IsAnswered};
 ghost use Rattle.regent_run.specs.Calls.{call_of, sink_change, source_change};
 ghost use Rattle.regent_run.specs.Traces.{all_serve};
-ghost use Rattle.regent_run.specs.Words.{request};
+ghost use Rattle.regent_run.specs.Words.{AsksNoFile, request};
 
 use crate::regent_run;
 use run_io::{FileSource, Sink, Source, StdSink};
@@ -50,7 +50,7 @@ pub fn regent_main<S: Source, K: Sink, E: Sink, G: Gate, R: Threads + Wait + Syn
     ensures answers { IfOk words (λ given. IsAnswered (call_of (texts given.items) all_serve
         (source_change S.Source source.old source.new)
         (sink_change K.Sink out.old out.new) (sink_change E.Sink err.old err.new)) result) }
-    ensures untouched { IfOk words (λ given. request (texts given.items) ≡ None → source.new ≡ source.old) }
+    ensures untouched { IfOk words (λ given. AsksNoFile (request (texts given.items)) → source.new ≡ source.old) }
 {
     match words {
         Ok(given) => regent_run(rt, alloc, &given, source, out, err, gate),

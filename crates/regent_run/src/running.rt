@@ -14,6 +14,7 @@ ghost use Rattle.regent_run.specs.Verdicts.{IsOfOutcome, IsSound, TellsPlan};
 
 use crate::plan::Plan;
 use crate::verdict::Verdict;
+use command_words::MOST_WORKERS;
 use parallel_run::{Ran, run_job};
 use plain_run::run_in_order;
 use plain_values::Sequence;
@@ -24,9 +25,6 @@ use std::sync::Wait;
 use std::thread::Threads;
 use task_code::Code;
 use worker_gate::Gate;
-
-/// The most workers that serve.
-const MOST_WORKERS: u64 = 64;
 
 /// The dump of the roots at the end of a run, where it is asked for.
 fn dump_by(

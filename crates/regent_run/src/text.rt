@@ -3,47 +3,18 @@
 ghost use Rattle.std.specs.Prelude.{◌≡◌, ◌≤◌, [], IfOk, IfErr, IfSome, length, string_bytes};
 ghost use Rattle.std.specs.Option.{option_map};
 ghost use Rattle.run_io.specs.Faults.{one_more};
+ghost use Rattle.run_io.specs.Rest.{IsCause};
 ghost use Rattle.run_io.specs.Source.{Moves, next_left, with_name};
-ghost use Rattle.regent_run.specs.Reading.{IsCause, TakesAtMost};
+ghost use Rattle.regent_run.specs.Reading.{TakesAtMost};
 
-use run_io::{Failed, Source};
-use std::alloc::{AllocError, Global};
+use run_io::{NoRest, Source, read_rest};
+use std::alloc::Global;
 
 /// The most bytes that are read: one more than a text may have.
 const MOST_BYTES: usize = 1_048_577;
 
-/// Why a text can't be had.
-#[derive(Debug, Drop)]
-pub enum NoText {
-    Failed,
-    Memory,
-}
-
-impl From<Failed> for NoText {
-    ghost use Rattle.std.specs.Prelude.{◌≡◌};
-    ghost use Rattle.regent_run.specs.declared.text.NoText.TheVariants as no_text;
-
-    ghost from_gives = { λ _ e. e ≡ no_text.Failed };
-
-    fn from(_failed: Failed) -> NoText {
-        NoText::Failed
-    }
-}
-
-impl From<AllocError> for NoText {
-    ghost use Rattle.std.specs.Prelude.{◌≡◌};
-    ghost use Rattle.regent_run.specs.declared.text.NoText.TheVariants as no_text;
-
-    ghost from_gives = { λ _ e. e ≡ no_text.Memory };
-
-    fn from(_error: AllocError) -> NoText {
-        NoText::Memory
-    }
-}
-
 /// Begins the source by the name, and reads what that leaves, up to 1,048,577 bytes.
-#[tactic(auto, using(run_io::proofs::SourceLemmas::moves_both))]
-pub fn read_text<S: Source>(alloc: Global, source: &mut S, name: String) -> Result<Vec<u8>, NoText>
+pub fn read_text<S: Source>(alloc: Global, source: &mut S, name: String) -> Result<Vec<u8>, NoRest>
     ensures text { IfOk result (λ text.
         Moves (option_map next_left (S.later source.old)) text.items (S.left source.new)) }
     ensures bound { IfOk result (λ text. length text.items ≤ 1048577) }
@@ -54,20 +25,9 @@ pub fn read_text<S: Source>(alloc: Global, source: &mut S, name: String) -> Resu
         (S.left source.old) (S.left source.new)) }
     ensures cause { IfErr result (IsCause (S.faults source.old) (S.faults source.new)) }
     ensures steady { IfOk result (λ _. S.faults source.new ≡ S.faults source.old) }
-    ensures faults { S.faults source.old ≤ S.faults source.new }
     ensures begins { S.begins source.new ≡ option_map one_more (S.begins source.old) }
     ensures names { S.names source.new ≡ option_map (with_name (string_bytes name)) (S.names source.old) }
 {
     source.begin(name)?;
-    let mut text = Vec::new(alloc);
-    let mut chunk = [0u8; 4096];
-    'turns: while text.len() < MOST_BYTES {
-        let room = (MOST_BYTES - text.len()).min(4096);
-        let count = source.read(&mut chunk[..room])?;
-        if count == 0 {
-            return Ok(text);
-        }
-        text.extend_from_slice(&chunk[..count])?;
-    }
-    Ok(text)
+    read_rest(alloc, source, MOST_BYTES)
 }

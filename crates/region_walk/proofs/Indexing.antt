@@ -9,7 +9,7 @@ use Rattle.region_tree.specs.Trees.{RegionTree}
 use Rattle.region_tree.specs.declared.tree.OpNumber.{OpNumber}
 use Rattle.region_walk.specs.Users.{IsIndexed, IsUser, ListedNeed, is_of_another, listed_need, users_in, users_of}
 use Rattle.region_walk.proofs.Permuting.{perm_filter}
-use Rattle.region_walk.proofs.Rising.{or_no, rising_filter, rising_inserted}
+use Rattle.region_walk.proofs.Rising.{rising_filter, rising_inserted}
 
 -- ---- one more operation
 
@@ -62,15 +62,6 @@ users_without op (l ∷ ls) =
     ∙ sym (filter-append (is_of_another op) (users_in l) (users_of ls)))
     (cases_Bool (not (l.op.0 == op)))
 
--- one that isn't listed has no users
-pub users_unlisted : (op : ℕ) (ls : List Listed) → has_op ls op ≡ false → filter (is_of_another op) (users_of ls) ≡ users_of ls
-users_unlisted op [] h = refl
-users_unlisted op (l ∷ ls) h =
-    let parts = or_no (is_op op l) (has_op ls op) h in
-    filter-append (is_of_another op) (users_in l) (users_of ls)
-    ∙ ap (λ (us : List ListedNeed). us ++ filter (is_of_another op) (users_of ls)) (all_kept l.context l.op op l.needs (ap not parts.0))
-    ∙ ap (λ (us : List ListedNeed). users_in l ++ us) (users_unlisted op ls parts.1)
-
 -- ---- an index
 
 pub indexed_inserted : (e : Listed) (ls : List Listed) (us vs : List ListedNeed) → has_op ls e.op.0 ≡ false →
@@ -87,16 +78,6 @@ indexed_without op ls us i = record {
   rising = rising_filter (λ (l : Listed). not (is_op op l)) ls i.rising;
   users = subst (λ vs. IsPermutation vs (filter (is_of_another op) us)) (sym (users_without op ls))
       (perm_filter (is_of_another op) (users_of ls) us i.users);
-}
-
--- where one that isn't listed was taken out again
-pub indexed_back : (op : ℕ) (ls : List Listed) (us vs : List ListedNeed) → has_op ls op ≡ false → IsIndexed ls us →
-    filter (is_of_another op) vs ≡ filter (is_of_another op) us → IsIndexed ls (filter (is_of_another op) vs)
-indexed_back op ls us vs h i e = record {
-  rising = i.rising;
-  users = subst (λ xs. IsPermutation (users_of ls) xs) (sym e)
-      (subst (λ xs. IsPermutation xs (filter (is_of_another op) us)) (users_unlisted op ls h)
-      (perm_filter (is_of_another op) (users_of ls) us i.users));
 }
 
 -- ---- what stands in a tree

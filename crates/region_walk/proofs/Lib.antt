@@ -4,8 +4,10 @@ pub mod Descending
 pub mod Examples
 pub mod Exact
 pub mod Indexing
+pub mod Keeping
 pub mod Keys
 pub mod Leaving
+pub mod Listing
 pub mod Meeting
 pub mod Nearness
 pub mod Ordering

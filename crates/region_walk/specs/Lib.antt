@@ -1,4 +1,5 @@
 pub mod Found
+pub mod Keeping
 pub mod Near
 pub mod Placing
 pub mod Rows

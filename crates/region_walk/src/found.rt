@@ -7,10 +7,11 @@ use region_tree::OpNumber;
 use std::alloc::{AllocError, Global};
 use std::marker::Model;
 
-/// Operations in rising order, each once.
+/// Operations in rising order, each once, and how many users of operations that have ended were passed on the way.
 #[derive(Drop)]
 pub struct Found {
     ops: Vec<OpNumber>,
+    passed: usize,
 }
 
 impl Model for Found {
@@ -34,7 +35,20 @@ impl Found {
     {
         Found {
             ops: Vec::new(alloc),
+            passed: 0,
         }
+    }
+
+    /// A user of an operation that has ended is passed.
+    pub fn pass(&mut self)
+        ensures { self.new ≡ self.old }
+    {
+        self.passed = self.passed.saturating_add(1);
+    }
+
+    /// How many were passed.
+    pub fn passed(&self) -> usize {
+        self.passed
     }
 
     /// Puts an operation in its place, unless it is there.

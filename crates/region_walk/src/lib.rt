@@ -2,6 +2,7 @@
 #![tactic(auto)]
 
 mod conflicts;
+mod entries;
 mod entry;
 mod found;
 mod placed;

@@ -1,31 +1,30 @@
 //! A finder that tests each operation.
 
-ghost use Rattle.std.specs.Prelude.{◌≤◌, length};
-ghost use Rattle.region_walk.specs.Placing.{IsPlace, IsRising};
+ghost use Rattle.std.specs.Prelude.{◌≡◌, false};
+ghost use Rattle.region_finder.specs.Listings.{has_op};
+ghost use Rattle.region_walk.specs.Keeping.{entries_of, live};
 
-use crate::entry::Entry;
+use crate::entries::Entries;
 use region_finder::{Finder, Paths, Probe, Steps};
 use region_tree::{Needs, OpNumber};
 use std::alloc::{AllocError, Global};
 use std::marker::Model;
 use std::sync::ledger::Ledger;
 
-/// The plain finder: it keeps a list in rising order, and tests each operation of it.
+/// The plain finder: it keeps entries in rising order, and tests each that hasn't ended.
 #[derive(Drop)]
 pub struct ScanFinder {
-    entries: Vec<Entry>,
+    entries: Entries,
 }
 
 impl Model for ScanFinder {
     ghost use Rattle.std.specs.Prelude.{List};
     ghost use Rattle.region_finder.specs.Listings.{Listed};
-    ghost use Rattle.region_walk.specs.Placing.{IsRising};
+    ghost use Rattle.region_walk.specs.Keeping.{live};
 
     ghost Value = { List Listed };
 
-    ghost view = { λ f. f.entries.items };
-
-    ghost invariant = { λ f. IsRising f.entries.items };
+    ghost view = { λ f. live f.entries };
 }
 
 impl ScanFinder {
@@ -36,27 +35,25 @@ impl ScanFinder {
         ensures { IsOkAnd result (λ f. f ≡ []) }
     {
         Ok(ScanFinder {
-            entries: Vec::new(alloc),
+            entries: Entries::new(alloc),
         })
     }
 
     /// Where the finder takes its memory from.
     pub fn allocator(&self) -> Global {
-        *self.entries.allocator()
+        self.entries.allocator()
     }
 }
 
-/// The place of an operation in a list in rising order: behind all with smaller numbers.
-fn place_of(entries: &[Entry], op: OpNumber) -> usize
-    requires rising { IsRising entries.now }
-    ensures place { IsPlace op.0 entries.now result }
-    ensures below { result ≤ length entries.now }
+/// Tidies up where there is an entry of an operation that is to be listed again.
+fn tidy_for(entries: &mut Entries, op: OpNumber)
+    requires { has_op (live entries.old) op.0 ≡ false }
+    ensures live { live entries.new ≡ live entries.old }
+    ensures absent { has_op (entries_of entries.new) op.0 ≡ false }
 {
-    let mut place = entries.len();
-    while place > 0 && op.0 < entries[place - 1].op().0 {
-        place -= 1;
+    if entries.knows(op) {
+        entries.tidy();
     }
-    place
 }
 
 impl Finder for ScanFinder {
@@ -69,10 +66,10 @@ impl Finder for ScanFinder {
         needs: &Needs,
         steps: &mut Steps<L>,
     ) -> Result<Vec<OpNumber>, AllocError> {
-        let mut found = Vec::new(*self.entries.allocator());
-        for entry in &self.entries {
-            if entry.interferes(tree, context, needs.items.as_slice(), steps) {
-                found.push(entry.op())?;
+        let mut found = Vec::new(self.entries.allocator());
+        for kept in self.entries.as_slice() {
+            if kept.interferes(tree, context, needs.items.as_slice(), steps) {
+                found.push(kept.op())?;
             }
         }
         Ok(found)
@@ -85,14 +82,15 @@ impl Finder for ScanFinder {
         op: OpNumber,
         needs: &Needs,
     ) -> Result<(), AllocError> {
-        let alloc = *self.entries.allocator();
-        let entry = Entry::new(alloc, tree, context, op, needs.items.as_slice())?;
-        let place = place_of(&self.entries, op);
-        self.entries.insert(place, entry)?;
-        Ok(())
+        tidy_for(&mut self.entries, op);
+        self.entries.add(tree, context, op, needs.items.as_slice())
     }
 
+    /// Takes the operation's entry out together with others, when more than half of the entries are of such operations.
     fn ended(&mut self, op: OpNumber) {
-        self.entries.retain(|entry| entry.op().0 != op.0);
+        self.entries.end(op);
+        if self.entries.are_stale() {
+            self.entries.tidy();
+        }
     }
 }

@@ -5,10 +5,12 @@ ghost use Rattle.region_tree.specs.Needs.{AreNeeds, IsNeed, requirement_of};
 ghost use Rattle.region_tree.specs.Requirements.{conflict};
 ghost use Rattle.region_finder.specs.Listings.{placed};
 ghost use Rattle.region_walk.specs.Found.{put_all, put_met, put_where};
+ghost use Rattle.region_walk.specs.Keeping.{live, live_users};
 ghost use Rattle.region_walk.specs.Near.{is_met, is_near, near_users};
 ghost use Rattle.region_walk.specs.Sides.{AreByKey, ArePassed, IsPlaceByKey, is_less, key, least_key};
 ghost use Rattle.region_walk.specs.Users.{IsUser, ListedNeed, is_of_another, listed_need};
 
+use crate::entries::Entries;
 use crate::found::Found;
 use crate::placed::way_down;
 use crate::user::User;
@@ -81,26 +83,39 @@ impl Users {
         self.users.retain(|user| user.is_of_another(op));
     }
 
-    /// Puts the operations that conflict with some of these needs to those that were found. Each test of
+    /// Takes all users out whose operations aren't listed.
+    pub fn keep(&mut self, listed: &Entries)
+        ensures { self.new ≡ live_users (live listed.now) self.old }
+    {
+        self.users.retain(|user| listed.has(user.op()));
+    }
+
+    /// How many there are.
+    pub fn len(&self) -> usize {
+        self.users.len()
+    }
+
+    /// Puts the listed operations that conflict with some of these needs to those that were found. Each test of
     /// points is of a user that isn't separated from the need.
     pub fn find_all<L: Ledger, P: Probe<L>>(
         &self,
+        listed: &Entries,
         tree: &P,
         context: OpNumber,
         needs: &[Need],
         found: &mut Found,
         steps: &mut Steps<L>,
     ) -> Result<(), AllocError>
-        requires users { All (IsUser (P.Paths.forest tree.now)) self.now }
+        requires users { All (IsUser (P.Paths.forest tree.now)) (live_users (live listed.now) self.now) }
         requires needs { AreNeeds (P.Paths.forest tree.now) needs.now }
         ensures found { OnOk result (found.new
-            ≡ put_met (P.Paths.forest tree.now) context.0 needs.now self.now found.old) }
+            ≡ put_met (P.Paths.forest tree.now) context.0 needs.now (live_users (live listed.now) self.now) found.old) }
         ensures bound { steps.new
-            ≤ steps.old + near_users (P.Paths.forest tree.now) context.0 needs.now self.now }
+            ≤ steps.old + near_users (P.Paths.forest tree.now) context.0 needs.now (live_users (live listed.now) self.now) }
         ensures steps { steps.old ≤ steps.new }
     {
         for need in needs {
-            self.find(tree, context, need, found, steps)?;
+            self.find(listed, tree, context, need, found, steps)?;
         }
         Ok(())
     }
@@ -108,26 +123,31 @@ impl Users {
     /// The same for one need.
     fn find<L: Ledger, P: Probe<L>>(
         &self,
+        listed: &Entries,
         tree: &P,
         context: OpNumber,
         need: &Need,
         found: &mut Found,
         steps: &mut Steps<L>,
     ) -> Result<(), AllocError>
-        requires users { All (IsUser (P.Paths.forest tree.now)) self.now }
+        requires users { All (IsUser (P.Paths.forest tree.now)) (live_users (live listed.now) self.now) }
         requires need { IsNeed (P.Paths.forest tree.now) need.now }
         ensures found { OnOk result (found.new
-            ≡ put_all (filter (is_met (P.Paths.forest tree.now) context.0 need.now) self.now) found.old) }
+            ≡ put_all (filter (is_met (P.Paths.forest tree.now) context.0 need.now) (live_users (live listed.now) self.now)) found.old) }
         ensures bound { steps.new
-            ≤ steps.old + length (filter (is_near (P.Paths.forest tree.now) context.0 need.now) self.now) }
+            ≤ steps.old + length (filter (is_near (P.Paths.forest tree.now) context.0 need.now) (live_users (live listed.now) self.now)) }
         ensures steps { steps.old ≤ steps.new }
     {
         let way = way_down(*self.users.allocator(), tree, need.node)?;
         let users = self.users.as_slice();
         let mut place = first(users, context, need);
         while place < users.len() {
-            if users[place].is_near(tree, context, need) {
-                meet(&users[place], tree, need, found, steps)?;
+            let user = &users[place];
+            if !listed.has(user.op()) {
+                found.pass();
+                place += 1;
+            } else if user.is_near(tree, context, need) {
+                meet(user, tree, need, found, steps)?;
                 place += 1;
             } else {
                 place = past(users, context, need, way.as_slice(), place);

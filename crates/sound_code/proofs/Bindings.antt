@@ -1,5 +1,5 @@
 -- What loops and variables bind: widths, domains, and the shapes of roots.
-use Rattle.std.proofs.Common.{◌≡◌, ℕ, ℤ, pos, List, Bool, false, refl, arith}
+use Rattle.std.proofs.Common.{◌≡◌, ℕ, ℤ, pos, List, Bool, refl, arith}
 use Rattle.std.proofs.lemmas.Int.{ints}
 use Rattle.lane_kernels.specs.declared.numbers.Width.{Width}
 use Rattle.lane_kernels.specs.declared.numbers.Width.TheVariants.{W32, W64}
@@ -8,7 +8,7 @@ use Rattle.regent_tree.specs.Numbers.{wider}
 use Rattle.regent_tree.specs.declared.typing.StaticType.{StaticType}
 use Rattle.regent_tree.specs.declared.typing.StaticType.TheVariants.{Integer as integer_type}
 use Rattle.regent_tree.specs.Syntax.{Expression, Name, if_form, Block, Arms, Otherwise}
-use Rattle.regent_tree.specs.Typing.{arithmetic_type, is_pointer, owned, taken_from}
+use Rattle.regent_tree.specs.Typing.{arithmetic_type, owned, taken_from}
 use Rattle.task_code.specs.declared.instr.Instr.TheVariants as instr
 use Rattle.machine_terms.specs.declared.value.Value.{Value}
 use Rattle.code_rules.specs.Initializers.{new_place, plain_code}
@@ -20,14 +20,15 @@ use Rattle.code_rules.specs.Statements.{looping, block_code}
 use Rattle.code_laws.specs.Standing.{Stands}
 use Rattle.fit_rules.specs.Shapes.{integer, World, Is, is_number}
 use Rattle.code_rules.specs.Expressions.{expr_code}
-use Rattle.code_laws.specs.Simple.{IsSimple, simple_integer, simple_truth, simple_space, simple_index, IsInteger, an_integer, IsSpace, a_space_type}
-use Rattle.fit_rules.specs.Shapes.{index, space}
+use Rattle.code_laws.specs.Simple.{simple_integer, simple_truth, simple_space, simple_index, IsInteger, an_integer}
 use Rattle.regent_tree.specs.Scopes.{Scope}
 use Rattle.regent_tree.specs.Syntax.{Tree}
 use Rattle.regent_tree.specs.Typing.{scope_after_arms}
 use Rattle.check_laws.specs.MeantVisits.{meant_in_arms, meant_in_else, meant_within}
-use Rattle.sound_code.specs.Ways.{Way, shape_in, shape_of}
+use Rattle.sound_code.specs.Ways.{Way, shape_of}
+use Rattle.code_laws.specs.Pointers.{a_pointer_type}
 use Rattle.sound_code.proofs.Told.{ToldAll, told_both}
+use Rattle.sound_code.proofs.Wholes.{IsKept, kept_pointer, kept_simple}
 
 -- ---- widths
 
@@ -59,17 +60,7 @@ widens _ _ (an_integer a) (an_integer b) = record {
   right = λ x v. of_width x b (wider a b) v (widened_right a b);
 }
 
--- ---- domains
-
--- what a loop over an index space takes is an index
-pub record Takes (u : StaticType) : Type 0 where
-  pub no_pointer : is_pointer (taken_from u) ≡ false
-  pub shape : (way : Way) (params : ℕ) → shape_in way params (taken_from u) ≡ index
-  pub simple : IsSimple (taken_from u)
-  pub domain : shape_of u ≡ space
-
-pub takes : (u : StaticType) → IsSpace u → Takes u
-takes _ (a_space_type c) = record { no_pointer = refl; shape = λ way params. refl; simple = simple_index c; domain = refl }
+-- ---- code
 
 -- the code of a loop over points, behind its domain
 abbrev pub over_points : Where → Name → StaticType → Block → Bool → Piece
@@ -85,9 +76,10 @@ pub parts_told : (tree : Tree) (way : Way) (s : Scope) (arms : Arms) (other : Ot
 parts_told tree way s arms other h = told_both tree way (λ task. meant_in_arms tree task s arms) (λ task. meant_in_else tree task (scope_after_arms tree s arms) other) h
 
 -- the value of an initializer stands first in its code
-pub plain_stands : (body : List Line) (w : Where) (e : Expression) (i : ℕ) (u : StaticType) (pc : ℕ) → IsSimple u →
+pub plain_stands : (body : List Line) (w : Where) (e : Expression) (i : ℕ) (u : StaticType) (pc : ℕ) → IsKept u →
     Stands body pc (plain_code w (owned i u) e) → Stands body pc (expr_code w 0 e)
-plain_stands body w e i _ pc (simple_integer v) st = st.0
-plain_stands body w e i _ pc simple_truth st = st.0
-plain_stands body w e i _ pc (simple_space c) st = st.0
-plain_stands body w e i _ pc (simple_index c) st = st.0
+plain_stands body w e i _ pc (kept_simple _ (simple_integer v)) st = st.0
+plain_stands body w e i _ pc (kept_simple _ simple_truth) st = st.0
+plain_stands body w e i _ pc (kept_simple _ (simple_space c)) st = st.0
+plain_stands body w e i _ pc (kept_simple _ (simple_index c)) st = st.0
+plain_stands body w e i _ pc (kept_pointer _ (a_pointer_type c sp args rs names)) st = st.0

@@ -1,6 +1,6 @@
 -- Code of calls has marks: the arguments are pushed one after the other, and the frame that a call opens suits the
 -- mark in which the task's body begins.
-use Rattle.std.proofs.Common.{◌≡◌, inl, ℕ, zero, suc, ◌<◌, ◌-◌, ◌+◌, pos, List, [], ◌∷◌, ◌++◌, map, Bool, true, false, ◌&&◌, cond, None, Some, refl, sym, ap, ◌∙◌, subst, arith, length-append, Option, ⊎_elim}
+use Rattle.std.proofs.Common.{◌≡◌, inl, ℕ, zero, suc, ◌<◌, ◌-◌, ◌+◌, pos, List, [], ◌∷◌, ◌++◌, map, Bool, true, false, ◌&&◌, cond, None, Some, refl, sym, ap, ◌∙◌, subst, arith, length-append, Option}
 use Rattle.std.specs.Prelude.{flat_map, length, nat_lt, replicate, slice_get}
 use Rattle.std.proofs.lemmas.List.{append-nil, length-map}
 use Rattle.regent_tree.specs.declared.typing.StaticType.{StaticType}
@@ -13,6 +13,7 @@ use Rattle.task_code.specs.declared.instr.Instr.TheVariants as instr
 use Rattle.machine_terms.specs.declared.value.Value.{Value}
 use Rattle.machine_terms.specs.declared.value.Value.TheVariants.{Number}
 use Rattle.machine_terms.specs.Pointers.{region_in}
+use Rattle.machine_terms.specs.Regions.{partition_in}
 use Rattle.code_rules.specs.Expressions.{count}
 use Rattle.code_rules.specs.Instructions.{tasks_of}
 use Rattle.code_rules.specs.Pieces.{Piece, op, ◌⨟◌, past, lines}
@@ -21,9 +22,9 @@ use Rattle.code_rules.specs.Statements.{block_code}
 use Rattle.code_rules.specs.Slots.{Where}
 use Rattle.code_laws.specs.Simple.{AreAlike, two_integers, two_truths, IsScalar, scalar_integer, scalar_truth, IsSimple, simple_integer, simple_truth, simple_index, simple_space}
 use Rattle.task_code.specs.declared.code.NeedCode.{NeedCode}
-use Rattle.code_laws.specs.Steps.{Forms, Taking, without_pointers}
-use Rattle.code_laws.specs.Arguments.{AreMet, IsHanded, IsMet, name_at}
-use Rattle.code_laws.specs.Typed.{ArePassed}
+use Rattle.code_laws.specs.Steps.{Forms, Taking}
+use Rattle.code_laws.specs.Arguments.{AreMet, IsMet, name_at}
+use Rattle.code_laws.specs.Typed.{ArePassed, IsIndexed, IsTyped}
 use Rattle.code_laws.proofs.Openings.{params_length, types_length}
 use Rattle.fit_rules.specs.Shapes.{Each, Shape, anything, Numeric, numeric_integer, numeric_truth, World, Is, is_anything, is_number, is_space, Are, are_none, are_more}
 use Rattle.fit_rules.specs.Marks.{Mark, Suits}
@@ -32,16 +33,18 @@ use Rattle.fit_rules.specs.Ends.{called, IsNeeded}
 use Rattle.fit_rules.specs.Sound.{Opens, Settled, Takes, takes_none, takes_more, settled_number}
 use Rattle.fit_laws.proofs.Lookup.{as_long}
 use Rattle.sound_code.specs.Ways.{Way, all_made, by_rules, opening_facts, shape_in, shape_of, told_by}
-use Rattle.sound_code.specs.Named.{IsSteady, is_apart, is_count, is_within}
+use Rattle.sound_code.specs.Named.{IsSteady, is_apart, is_count, is_parted, is_within, slot_at}
 use Rattle.sound_code.proofs.Steady.{steady_holds}
-use Rattle.fit_rules.specs.Marks.{apart, Fact, Holds, in_slot, lies}
+use Rattle.fit_rules.specs.Marks.{apart, Fact, Holds, in_slot, lies, parted}
 use Rattle.std.proofs.lemmas.Bool.{ltb-true}
 use Rattle.std.proofs.lemmas.Option.{none-some}
 use Rattle.regent_tree.specs.Scopes.{scope_of}
 use Rattle.regent_tree.specs.declared.facts.Known.{Known as RegionKnown}
-use Rattle.regent_tree.specs.declared.facts.Known.TheVariants.{Within, Apart}
+use Rattle.regent_tree.specs.declared.facts.Known.TheVariants.{Within, Apart, PartOf}
 use Rattle.regent_tree.specs.declared.facts.Term.TheVariants.{Name as TermName}
+use Rattle.sound_code.specs.WholeTasks.{are_whole_arguments}
 use Rattle.sound_code.proofs.Asked.{opening_mark, other, Known}
+use Rattle.sound_code.proofs.Wholes.{Asks, asks_first, asks_second, given_whole, IsWorth, met_whole, worth_named, worth_pointer, worth_simple}
 
 pub scalar_numeric : (t : StaticType) → IsScalar t → Numeric (shape_of t)
 scalar_numeric _ (scalar_integer w) = numeric_integer w
@@ -114,6 +117,9 @@ both_told params a b f h = chosen (nat_lt a params) refl (nat_lt b params) refl
 told_steady : (params : ℕ) (k : RegionKnown) → Each (IsSteady params params) (told_by params k)
 told_steady params (Within (TermName a) (TermName b)) = both_told params a b (lies (in_slot a) (in_slot b)) (is_within a b)
 told_steady params (Apart (TermName a) (TermName b)) = both_told params a b (apart (in_slot a) (in_slot b)) (is_apart a b)
+told_steady params (PartOf p r d) = both_told params p r (parted p r) (λ l k.
+    subst (λ q. IsSteady params params (parted q r)) (omega (arith, l))
+    (subst (λ q. IsSteady params params (parted (slot_at params p) q)) (omega (arith, k)) (is_parted p r l k)))
 told_steady params _ = tt
 
 each_both : (P : Fact → Type 0) (xs ys : List Fact) → Each P xs → Each P ys → Each P (xs ++ ys)
@@ -130,8 +136,10 @@ opening_steady (by_rules task) tree t = all_steady (length t.params) (scope_of t
 
 opening_kept : (way : Way) (tree : Tree) (t : TaskTree) (ws us : List Value) → length ws ≡ length t.params → Each (λ k. Holds k ws) (opening_facts way tree t) →
     Each (λ k. Holds k (ws ++ us)) (opening_facts way tree t)
-opening_kept way tree t ws us long h = steady_holds (length t.params) (length t.params) ws (ws ++ us)
-    (λ p lo hi. absurd (omega (arith, lo, hi))) (λ i l. ap region_in (get_front ws us i (omega (arith, l, long))))
+opening_kept way tree t ws us long h = steady_holds (length t.params) (length t.params) (omega arith) ws (ws ++ us)
+    (λ p lo hi. absurd (omega (arith, lo, hi)))
+    (λ i l.
+    let same = get_front ws us (slot_at (length t.params) i) (omega (arith, l, long)) in (ap region_in same, ap partition_in same))
     (opening_facts way tree t) (opening_steady way tree t) h
 
 -- what a frame has that opens with arguments of the parameters' shapes suits the mark
@@ -152,43 +160,41 @@ opening_suits way tree t x ws a told =
       args = λ i l. ap region_in (get_front ws _ i (omega (arith, l, long)));
     })
 
--- numbers, truths, indices and index spaces are so around every frame
-pub simples_are : (x y : World) (ts : List StaticType) (ws : List Value) → Each IsSimple ts → Are x (map shape_of ts) ws →
-    Are y (map shape_of ts) ws
-simples_are x y [] _ h are_none = are_none
-simples_are x y (t ∷ ts) _ h (are_more _ v _ vs i a) =
-    are_more (shape_of t) v _ vs (one t h.0 v i) (simples_are x y ts vs h.1 a)
-  where
-    one : (t : StaticType) → IsSimple t → (v : Value) → Is x (shape_of t) v → Is y (shape_of t) v
-    one _ (simple_integer w) _ (is_number _ z p) = is_number _ z p
-    one _ simple_truth _ (is_number _ z p) = is_number _ z p
-    one _ (simple_index k) _ (is_number _ z p) = is_number _ z p
-    one _ (simple_space k) _ (is_space n l) = is_space n l
-    one _ (simple_space k) _ (is_number _ z p) = absurd p
+-- numbers, truths, indices, pointers and index spaces are so around every frame
+pub worth_is : (x y : World) (t : StaticType) (v : Value) → IsWorth t → Is x (shape_of t) v → Is y (shape_of t) v
+worth_is x y _ _ (worth_simple _ (simple_integer w)) (is_number _ z p) = is_number _ z p
+worth_is x y _ _ (worth_simple _ simple_truth) (is_number _ z p) = is_number _ z p
+worth_is x y _ _ (worth_simple _ (simple_index k)) (is_number _ z p) = is_number _ z p
+worth_is x y _ _ (worth_simple _ (simple_space k)) (is_space n l) = is_space n l
+worth_is x y _ _ (worth_simple _ (simple_space k)) (is_number _ z p) = absurd p
+worth_is x y _ _ (worth_pointer k sp args rs few) (is_number _ z p) = is_number _ z p
 
-scalars_simple : (ts : List StaticType) → Each IsScalar ts → Each IsSimple ts
-scalars_simple [] h = tt
-scalars_simple (t ∷ ts) h = (one t h.0, scalars_simple ts h.1)
-  where
-    one : (t : StaticType) → IsScalar t → IsSimple t
-    one _ (scalar_integer w) = simple_integer w
-    one _ scalar_truth = simple_truth
+pub worths_are : (x y : World) (ts : List StaticType) (ws : List Value) → Each IsWorth ts → Are x (map shape_of ts) ws →
+    Are y (map shape_of ts) ws
+worths_are x y [] _ h are_none = are_none
+worths_are x y (t ∷ ts) _ h (are_more _ v _ vs i a) = are_more (shape_of t) v _ vs (worth_is x y t v h.0 i) (worths_are x y ts vs h.1 a)
+
+pub simples_worth : (ts : List StaticType) → Each IsSimple ts → Each IsWorth ts
+simples_worth [] h = tt
+simples_worth (t ∷ ts) h = (worth_simple t h.0, simples_worth ts h.1)
 
 -- ---- calls
 
-pub passed_scalars : (forms : Forms) (plain : forms.takes ≡ None) (w : Where) (ts ps : List StaticType) (es : Expressions) → ArePassed (without_pointers forms) w ts ps es →
-    Each IsScalar ps
-passed_scalars forms plain w [] [] no_expr h = tt
-passed_scalars forms plain w (t ∷ ts) (p ∷ ps) (an_expr e es) h = (
-  ⊎_elim (λ a. subst IsScalar a.0.1 (alike_second _ t a.0.0)) (λ r. ⊎_elim (λ q. absurd (subst (λ o. IsHanded o w t p e) plain q)) (λ none. absurd none) r) h.0,
-  passed_scalars forms plain w ts ps es h.1,
+pub passed_worth : (forms : Forms) (plain : forms.takes ≡ None) (w : Where) (ts ps : List StaticType) (es : Expressions) → ArePassed forms w ts ps es →
+    Asks forms.keeps (are_whole_arguments true w ps es) → Each IsWorth ps
+passed_worth forms plain w [] [] no_expr h asks = tt
+passed_worth forms plain w (t ∷ ts) (p ∷ ps) (an_expr e es) h asks = (
+  given_whole forms.keeps forms.takes w t p e (IsTyped forms w e) (IsIndexed forms w e) (IsWorth p) (asks_first _ _ _ asks)
+      (λ enters is. enters.worth)
+      (λ y takes q. absurd (none-some y (sym plain ∙ takes))) h.0,
+  passed_worth forms plain w ts ps es h.1 (asks_second _ _ _ asks),
 )
-passed_scalars forms plain w [] [] (an_expr e es) h = absurd h
-passed_scalars forms plain w [] (p ∷ ps) es h = absurd h
-passed_scalars forms plain w (t ∷ ts) [] es h = absurd h
-passed_scalars forms plain w (t ∷ ts) (p ∷ ps) no_expr h = absurd h
+passed_worth forms plain w [] [] (an_expr e es) h asks = absurd h
+passed_worth forms plain w [] (p ∷ ps) es h asks = absurd h
+passed_worth forms plain w (t ∷ ts) [] es h asks = absurd h
+passed_worth forms plain w (t ∷ ts) (p ∷ ps) no_expr h asks = absurd h
 
-pub passed_many : (forms : Forms) (w : Where) (ts ps : List StaticType) (es : Expressions) → ArePassed (without_pointers forms) w ts ps es →
+pub passed_many : (forms : Forms) (w : Where) (ts ps : List StaticType) (es : Expressions) → ArePassed forms w ts ps es →
     length ps ≡ count es
 passed_many forms w [] [] no_expr h = refl
 passed_many forms w (t ∷ ts) (p ∷ ps) (an_expr e es) h = ap suc (passed_many forms w ts ps es h.1)
@@ -198,9 +204,10 @@ passed_many forms w (t ∷ ts) [] es h = absurd h
 passed_many forms w (t ∷ ts) (p ∷ ps) no_expr h = absurd h
 
 -- where no regions are handed over, a task that is called needs nothing
-pub nothing_needed : (o : Option Taking) → o ≡ None → (w : Where) (es : Expressions) (ns : List NeedCode) → AreMet false o w es ns → ns ≡ []
-nothing_needed o e w es [] a = refl
-nothing_needed o e w es (n ∷ ns) a = absurd (subst (λ o. IsMet o w n (name_at es n.param)) e a.0)
+pub nothing_needed : (b : Bool) (o : Option Taking) → o ≡ None → (w : Where) (ps : List StaticType) (es : Expressions) (ns : List NeedCode) →
+    Asks b (are_whole_arguments true w ps es) → AreMet b o w es ns → ns ≡ []
+nothing_needed b o e w ps es [] asks a = refl
+nothing_needed b o e w ps es (n ∷ ns) asks a = absurd (subst (λ o. IsMet o w n (name_at es n.param)) e (met_whole b o w ps es n asks a.0))
 
 -- a task's body has an instruction at least
 some_lines : (p : Piece) (line : ℕ) → 0 < length (lines (p ⨟ op instr.Return line) 0)
@@ -209,41 +216,39 @@ some_lines p line = let e = length-append (lines p 0) (lines (op instr.Return li
 pub some_body : (tree : Tree) (u : TaskTree) → 0 < length (task_code tree u).body
 some_body tree u = some_lines (block_code (place_of tree u) u.body) 0
 
--- shapes of simple types are the same of names
-pub simples_named : (way : Way) (params : ℕ) (ts : List StaticType) → Each IsSimple ts → map (shape_in way params) ts ≡ map shape_of ts
-simples_named way params [] h = refl
-simples_named way params (t ∷ ts) h = ap (λ s. s ∷ map (shape_in way params) ts) (one t h.0) ∙ ap (λ l. shape_of t ∷ l) (simples_named way params ts h.1)
-  where
-    one : (t : StaticType) → IsSimple t → shape_in way params t ≡ shape_of t
-    one _ (simple_integer w) = refl
-    one _ simple_truth = refl
-    one _ (simple_index k) = refl
-    one _ (simple_space k) = refl
+-- shapes of such types are the same of names
+pub worths_named : (way : Way) (params : ℕ) (ts : List StaticType) → Each IsWorth ts → map (shape_in way params) ts ≡ map shape_of ts
+worths_named way params [] h = refl
+worths_named way params (t ∷ ts) h = ap (λ s. s ∷ map (shape_in way params) ts) (worth_named way params t h.0)
+    ∙ ap (λ l. shape_of t ∷ l) (worths_named way params ts h.1)
 
--- of values that are no regions each fact of parameters holds
-no_regions : (x : World) (ts : List StaticType) (ws : List Value) → Each IsSimple ts → Are x (map shape_of ts) ws → (i : ℕ) → region_in (slice_get ws i) ≡ None
-no_regions x [] _ h are_none i = refl
+-- of values that are no regions and no partitions each fact of parameters holds
+no_regions : (x : World) (ts : List StaticType) (ws : List Value) → Each IsWorth ts → Are x (map shape_of ts) ws → (i : ℕ) →
+    (region_in (slice_get ws i) ≡ None) × (partition_in (slice_get ws i) ≡ None)
+no_regions x [] _ h are_none i = (refl, refl)
 no_regions x (t ∷ ts) _ h (are_more _ v _ vs q a) zero = one t v h.0 q
   where
-    one : (t : StaticType) (v : Value) → IsSimple t → Is x (shape_of t) v → region_in (Some v) ≡ None
-    one _ _ (simple_integer w) (is_number _ z p) = refl
-    one _ _ simple_truth (is_number _ z p) = refl
-    one _ _ (simple_index k) (is_number _ z p) = refl
-    one _ _ (simple_space k) (is_space n l) = refl
-    one _ _ (simple_space k) (is_number _ z p) = refl
+    one : (t : StaticType) (v : Value) → IsWorth t → Is x (shape_of t) v → (region_in (Some v) ≡ None) × (partition_in (Some v) ≡ None)
+    one _ _ (worth_simple _ (simple_integer w)) (is_number _ z p) = (refl, refl)
+    one _ _ (worth_simple _ simple_truth) (is_number _ z p) = (refl, refl)
+    one _ _ (worth_simple _ (simple_index k)) (is_number _ z p) = (refl, refl)
+    one _ _ (worth_simple _ (simple_space k)) (is_space n l) = (refl, refl)
+    one _ _ (worth_simple _ (simple_space k)) (is_number _ z p) = (refl, refl)
+    one _ _ (worth_pointer k sp args rs few) (is_number _ z p) = (refl, refl)
 no_regions x (t ∷ ts) _ h (are_more _ v _ vs q a) (suc i) = no_regions x ts vs h.1 a i
 
-pub simples_told : (way : Way) (tree : Tree) (t : TaskTree) (x : World) (ts : List StaticType) (ws : List Value) → Each IsSimple ts → Are x (map shape_of ts) ws →
+pub worths_told : (way : Way) (tree : Tree) (t : TaskTree) (x : World) (ts : List StaticType) (ws : List Value) → Each IsWorth ts → Are x (map shape_of ts) ws →
     Each (λ k. Holds k ws) (opening_facts way tree t)
-simples_told way tree t x ts ws h a = each (opening_facts way tree t) (opening_steady way tree t)
+worths_told way tree t x ts ws h a = each (opening_facts way tree t) (opening_steady way tree t)
   where
-    none : (i : ℕ) → region_in (slice_get ws i) ≡ None
+    none : (i : ℕ) → (region_in (slice_get ws i) ≡ None) × (partition_in (slice_get ws i) ≡ None)
     none = no_regions x ts ws h a
 
     one : (k : Fact) → IsSteady (length t.params) (length t.params) k → Holds k ws
     one _ (is_count p lo hi) = absurd (omega (arith, lo, hi))
-    one _ (is_within i j li lj) = λ r e. absurd (none-some r (sym (none i) ∙ e))
-    one _ (is_apart i j li lj) = λ r q e f. absurd (none-some r (sym (none i) ∙ e))
+    one _ (is_within i j li lj) = λ r e. absurd (none-some r (sym (none i).0 ∙ e))
+    one _ (is_apart i j li lj) = λ r q e f. absurd (none-some r (sym (none i).0 ∙ e))
+    one _ (is_parted i j li lj) = λ q e. absurd (none-some q (sym (none (slot_at (length t.params) i)).1 ∙ e))
 
     each : (ks : List Fact) → Each (IsSteady (length t.params) (length t.params)) ks → Each (λ k. Holds k ws) ks
     each [] s = tt
@@ -251,14 +256,14 @@ simples_told way tree t x ts ws h a = each (opening_facts way tree t) (opening_s
 
 module _ (g : Program) (t : TaskCode) (k : ℕ) (way : Way) (w : Where) (known : Known way g w.tree) where
   pub opens : (m : Mark) (task : ℕ) (u : TaskTree) → slice_get (tasks_of w.tree) task ≡ Some u → (task_code w.tree u).needs ≡ [] →
-      Each IsScalar (param_types w.tree u) → Opens g t m task (task_code w.tree u) (map shape_of (param_types w.tree u))
-  opens m task u there none scalars x vs st ws knows s a = (
+      Each IsWorth (param_types w.tree u) → Opens g t m task (task_code w.tree u) (map shape_of (param_types w.tree u))
+  opens m task u there none worth x vs st ws knows s a = (
     subst (λ y. Suits (called x ws) (length u.params) y (ws ++ replicate ((task_code w.tree u).slots - length ws) (Number (pos 0))) [])
         (sym (known.begins task u there))
         (opening_suits (other way u) w.tree u x ws
-        (subst (λ y. Are (called x ws) y ws) (sym (simples_named (other way u) (length u.params) (param_types w.tree u) (scalars_simple (param_types w.tree u) scalars)))
-        (simples_are x (called x ws) (param_types w.tree u) ws (scalars_simple (param_types w.tree u) scalars) a))
-        (simples_told (other way u) w.tree u x (param_types w.tree u) ws (scalars_simple (param_types w.tree u) scalars) a)),
+        (subst (λ y. Are (called x ws) y ws) (sym (worths_named (other way u) (length u.params) (param_types w.tree u) worth))
+        (worths_are x (called x ws) (param_types w.tree u) ws worth a))
+        (worths_told (other way u) w.tree u x (param_types w.tree u) ws worth a)),
     subst (λ ns. Each (IsNeeded g x ws) ns) (sym none) tt,
     subst (λ ns. IsWithin (declared_claims ns ws) (claims g x t)) (sym none) (λ root field point. inl refl),
   )

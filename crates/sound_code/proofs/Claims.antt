@@ -1,4 +1,5 @@
--- What a task's clauses tell of its parameters, as facts: each is told by one clause, of two parameters that are regions.
+-- What is told of a task's parameters, as facts: each is told by one clause, of two parameters that are regions, or by the type of
+-- one that is a partition.
 use Rattle.std.proofs.Common.{◌≡◌, ⊎_elim, ℕ, List, [], ◌∷◌, Bool, true, false, ◌&&◌, cond, inl, inr, refl, sym, ap, subst}
 use Rattle.std.specs.Prelude.{length, nat_lt}
 use Rattle.std.proofs.lemmas.Bool.{or_parts}
@@ -22,7 +23,7 @@ use Rattle.expression_laws.proofs.Params.{known_clause, none_has}
 use Rattle.code_laws.proofs.DeclaredNeeds.{IsRegionParam, region_param}
 use Rattle.code_laws.specs.Taking.{known_of_pairs, pairs_in}
 use Rattle.fit_rules.specs.Shapes.{Among, Each}
-use Rattle.fit_rules.specs.Marks.{apart, Fact, in_slot, lies}
+use Rattle.fit_rules.specs.Marks.{apart, Fact, in_slot, lies, parted}
 use Rattle.sound_code.specs.Ways.{by_rules, opening_facts, told_by}
 
 -- ---- what types tell is of partitions
@@ -48,12 +49,6 @@ params_tell [] k h = absurd h
 params_tell (b ∷ bs) k h = ⊎_elim (params_tell bs k) (type_tells b.static_type k)
     (Has-append_cases (known_of_params bs) (known_of_type b.static_type) k h)
 
-untold : (params : ℕ) (k : Known) (f : Fact) → IsPartition k → Has (told_by params k) f → ⊥
-untold params (PartOf p r d) f h i = i
-untold params (Within a b) f h i = h
-untold params (Apart a b) f h i = h
-untold params (Made s) f h i = h
-
 -- ---- facts
 
 only_one : (b : Bool) (f q : Fact) → Has (cond b (f ∷ []) []) q → f ≡ q
@@ -75,6 +70,7 @@ module _ (tree : Tree) (u : TaskTree) (sound : IsSoundTask tree u) where
         IsClaimed (lies (in_slot (place a)) (in_slot (place b)))
     claims_apart : (a b : Name) → Has u.clauses (clause.Apart a b) → IsRegionParam tree u sound a → IsRegionParam tree u sound b →
         IsClaimed (apart (in_slot (place a)) (in_slot (place b)))
+    claims_parted : (p r : ℕ) (d : Bool) → Has (known_of_params (scope_of tree u).names) (PartOf p r d) → IsClaimed (parted p r)
 
   by_clause : (c : Clause) → Has u.clauses c → misdeclares tree (params_bound tree u.params) c ≡ false → (k : Known) →
       Has (known_of_clause u.params c) k → (f : Fact) → Has (told_by (length u.params) k) f → IsClaimed f
@@ -92,10 +88,17 @@ module _ (tree : Tree) (u : TaskTree) (sound : IsSoundTask tree u) where
   by_clause (clause.Apart a b) hc e k (inr g) f h = absurd g
   by_clause (clause.Grants grants places) hc e k g f h = absurd g
 
+  by_type : (k : Known) (f : Fact) → IsPartition k → Has (known_of_params (scope_of tree u).names) k → Has (told_by (length u.params) k) f → IsClaimed f
+  by_type (PartOf p r d) f i there h = subst IsClaimed (only_one (nat_lt p (length u.params) && nat_lt r (length u.params)) (parted p r) f h)
+      (claims_parted p r d there)
+  by_type (Within a b) f i there h = absurd i
+  by_type (Apart a b) f i there h = absurd i
+  by_type (Made s) f i there h = absurd i
+
   claimed : (f : Fact) → Has (opening_facts (by_rules u) tree u) f → IsClaimed f
   claimed f h =
       let k = has_flat (told_by (length u.params)) (scope_of tree u).known f h in
-      ⊎_elim (λ p. absurd (untold (length u.params) k.0 f (params_tell (scope_of tree u).names k.0 p) k.2))
+      ⊎_elim (λ p. by_type k.0 f (params_tell (scope_of tree u).names k.0 p) p k.2)
       (λ p.
       let c = known_clause u.params u.clauses k.0 p in
       by_clause c.0 c.1 (none_has (misdeclares tree (params_bound tree u.params)) u.clauses c.0 sound.clauses c.1) k.0 c.2 f k.2)

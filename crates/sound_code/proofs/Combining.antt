@@ -9,8 +9,9 @@ use Rattle.task_code.specs.declared.instr.Instr.{Instr}
 use Rattle.task_code.specs.declared.instr.Instr.TheVariants as instr
 use Rattle.machine_terms.specs.declared.value.Value.{Value}
 use Rattle.machine_terms.specs.Pointers.{region_in}
+use Rattle.machine_terms.specs.Regions.{partition_in}
 use Rattle.code_rules.specs.Pieces.{Piece, empty, op, ◌⨟◌}
-use Rattle.fit_rules.specs.Shapes.{Each, Shape, Numeric, numeric_integer, numeric_truth, numeric_index, numeric_pointer, World, Is, is_number, Are}
+use Rattle.fit_rules.specs.Shapes.{Each, Shape, Numeric, numeric_integer, numeric_truth, numeric_index, numeric_pointer, space, World, Is, is_number, is_space, Are}
 use Rattle.fit_rules.specs.Marks.{Holds, Mark, Into, stacked}
 use Rattle.fit_rules.specs.Fits.{Program}
 use Rattle.fit_rules.specs.Sound.{Effect}
@@ -20,27 +21,36 @@ use Rattle.marked_code.specs.Marked.{leads_on, leads_storing, Typed, typed_empty
 use Rattle.sound_code.specs.Named.{slot_at, Ready}
 use Rattle.sound_code.specs.Ways.{Way}
 use Rattle.sound_code.proofs.Narrowing.{set_kept}
-use Rattle.sound_code.proofs.Steady.{behind_same, between_same, steady_holds}
+use Rattle.sound_code.proofs.Steady.{behind_same, between_same, SameParts, steady_holds}
 
--- a number is no region, so that regions stay where numbers are put for numbers
-no_region : (x : World) (a : Shape) (v : Value) → Numeric a → Is x a v → region_in (Some v) ≡ None
-no_region x _ _ (numeric_integer w) (is_number _ z h) = refl
-no_region x _ _ numeric_truth (is_number _ z h) = refl
-no_region x _ _ numeric_index (is_number _ z h) = refl
-no_region x _ _ (numeric_pointer n) (is_number _ z h) = refl
+-- a shape of no region and no partition: a number's, or that of an index space
+pub data IsBare : Shape → Type 0 where
+  bare_number : (a : Shape) → Numeric a → IsBare a
+  bare_space : IsBare space
 
-same_regions : (x : World) (ss : List Shape) (vs : List Value) (s : ℕ) (a : Shape) (v : Value) → Numeric a → Are x ss vs →
-    slice_get ss s ≡ Some a → Is x a v → s < length ss → (i : ℕ) →
-    region_in (slice_get (slice_set vs s v) i) ≡ region_in (slice_get vs i)
-same_regions x ss vs s a v na are e h l i = of_test (s == i) refl
+-- so these stay where such values are put for such
+no_region : (x : World) (a : Shape) (v : Value) → IsBare a → Is x a v → (region_in (Some v) ≡ None) × (partition_in (Some v) ≡ None)
+no_region x _ _ (bare_number _ (numeric_integer w)) (is_number _ z h) = (refl, refl)
+no_region x _ _ (bare_number _ numeric_truth) (is_number _ z h) = (refl, refl)
+no_region x _ _ (bare_number _ numeric_index) (is_number _ z h) = (refl, refl)
+no_region x _ _ (bare_number _ (numeric_pointer n)) (is_number _ z h) = (refl, refl)
+no_region x _ _ bare_space (is_space n l) = (refl, refl)
+no_region x _ _ bare_space (is_number _ z h) = absurd h
+
+same_parts : (x : World) (ss : List Shape) (vs : List Value) (s : ℕ) (a : Shape) (v : Value) → IsBare a → Are x ss vs →
+    slice_get ss s ≡ Some a → Is x a v → s < length ss → (i : ℕ) → SameParts vs (slice_set vs s v) i
+same_parts x ss vs s a v na are e h l i = of_test (s == i) refl
   where
-    of_test : (b : Bool) → s == i ≡ b → region_in (slice_get (slice_set vs s v) i) ≡ region_in (slice_get vs i)
-    of_test false q = ap region_in (get_other vs s i v (eqb-false s i q))
+    of_test : (b : Bool) → s == i ≡ b → SameParts vs (slice_set vs s v) i
+    of_test false q =
+        let same = get_other vs s i v (eqb-false s i q) in (ap region_in same, ap partition_in same)
     of_test true q =
         let old = value_at x ss vs s a are e in
-        subst (λ j. region_in (slice_get (slice_set vs s v) j) ≡ region_in (slice_get vs j)) (eqb-true s i q)
-        (ap region_in (get_set vs s v (omega (arith, l, as_long x ss vs are))) ∙ no_region x a v na h
-        ∙ sym (ap region_in old.at ∙ no_region x a old.value na old.of))
+        let set = get_set vs s v (omega (arith, l, as_long x ss vs are)) in
+        let was = no_region x a old.value na old.of in
+        let is = no_region x a v na h in
+        subst (SameParts vs (slice_set vs s v)) (eqb-true s i q)
+        (ap region_in set ∙ is.0 ∙ sym (ap region_in old.at ∙ was.0), ap partition_in set ∙ is.1 ∙ sym (ap partition_in old.at ∙ was.1))
 
 -- the slot behind, where names are more than the parameters
 pub slot_high : (params p : ℕ) → params ≤ p → params ≤ slot_at params p
@@ -56,17 +66,17 @@ Keeps m s = (vs : List Value) (v : Value) → Each (λ k. Holds k vs) m.facts �
 pub behind_kept : (way : Way) (params : ℕ) (bs : List Bound) (m : Mark) (s : ℕ) → Ready way params bs m → slot_at params (length bs) ≤ s → Keeps m s
 behind_kept way params bs m s r h vs v k =
     let same = behind_same params (length bs) s vs v r.low h in
-    steady_holds params (length bs) vs (slice_set vs s v) same.0 same.1 m.facts r.facts k
+    steady_holds params (length bs) r.low vs (slice_set vs s v) same.0 same.1 m.facts r.facts k
 
--- and where a name's slot is set that holds no region before and after
+-- and where a name's slot is set that holds no region and no partition before and after
 abbrev pub KeepsNumber : Mark → ℕ → Type 0
 KeepsNumber m s = (vs : List Value) (v : Value) →
-    ((i : ℕ) → region_in (slice_get (slice_set vs s v) i) ≡ region_in (slice_get vs i)) →
+    ((i : ℕ) → SameParts vs (slice_set vs s v) i) →
     Each (λ k. Holds k vs) m.facts → Each (λ k. Holds k (slice_set vs s v)) m.facts
 
 pub named_kept : (way : Way) (params : ℕ) (bs : List Bound) (m : Mark) (p : ℕ) → Ready way params bs m → KeepsNumber m (slot_at params p)
-named_kept way params bs m p r vs v same k = steady_holds params (length bs) vs (slice_set vs (slot_at params p) v)
-    (between_same params p (length bs) vs v) (λ i l. same i) m.facts r.facts k
+named_kept way params bs m p r vs v same k = steady_holds params (length bs) r.low vs (slice_set vs (slot_at params p) v)
+    (between_same params p (length bs) vs v) (λ i l. same (slot_at params i)) m.facts r.facts k
 
 module _ (g : Program) (t : TaskCode) (k : ℕ) where
   -- a piece with some marks
@@ -96,19 +106,19 @@ module _ (g : Program) (t : TaskCode) (k : ℕ) where
         (stores_behind t.params (stacked m (a ∷ us)) s a b us refl lo kept h) (length-set m.slots s b));
   }
 
-  -- a number in the place of a number
-  pub keeping : (m : Mark) (s : ℕ) (a : Shape) (us : List Shape) (line : ℕ) → KeepsNumber m s → Numeric a →
+  -- a number in the place of a number, or an index space in that of one
+  pub keeping : (m : Mark) (s : ℕ) (a : Shape) (us : List Shape) (line : ℕ) → KeepsNumber m s → IsBare a →
       s < length m.slots → slice_get m.slots s ≡ Some a →
       Marked (stacked m (a ∷ us)) (op (instr.Store s) line) (stacked m us)
   keeping m s a us line kept na hi e = record {
     marks = _;
     is = typed_op _ _ _ line (leads_storing (stacked m (a ∷ us)) (stacked m us) s a us refl hi
         (λ x vs st v q.
-        let same = same_regions x m.slots vs s a v na q.slots e (are_first x a us v st q.stack) hi in record {
+        let same = same_parts x m.slots vs s a v na q.slots e (are_first x a us v st q.stack) hi in record {
           slots = set_kept x m.slots vs s a v q.slots e (are_first x a us v st q.stack);
           stack = are_others x a us v st q.stack;
           facts = kept vs v same q.facts;
           top = tt;
-          args = λ i l. same i ∙ q.args i l;
+          args = λ i l. (same i).0 ∙ q.args i l;
         }) refl);
   }

@@ -1,7 +1,7 @@
 -- What a called task's clauses tell of its parameters holds of what is handed over, since nothing is told of the call.
 use Rattle.std.proofs.Common.{◌≡◌, inl, inr, ℕ, zero, suc, List, Bool, true, false, Some, refl, sym, ap, ◌∙◌, subst, arith, None, ⊎_elim}
 use Rattle.std.specs.Prelude.{slice_get}
-use Rattle.std.proofs.lemmas.Bool.{false≢true, not-false}
+use Rattle.std.proofs.lemmas.Bool.{not-false}
 use Rattle.std.proofs.lemmas.Option.{none-some, same_Some}
 use Rattle.plain_values.proofs.Plain.{option_or_parts}
 use Rattle.plain_values.specs.Points.{has}
@@ -11,6 +11,9 @@ use Rattle.regent_tree.specs.StaticTypes.{place_in, task_named}
 use Rattle.regent_tree.specs.Syntax.{Expressions, Name, TaskTree, an_expr, no_expr}
 use Rattle.regent_tree.specs.Typing.{param_types}
 use Rattle.regent_tree.specs.declared.facts.Known.{Known}
+use Rattle.regent_tree.specs.declared.facts.Known.TheVariants.{PartOf}
+use Rattle.regent_tree.specs.Scopes.{scope_of}
+use Rattle.sound_code.proofs.NoCuts.{no_cut_told, no_cuts}
 use Rattle.regent_tree.specs.declared.facts.Term.TheVariants as term
 use Rattle.regent_tree.specs.declared.program.Clause.TheVariants as clause
 use Rattle.regent_tree.specs.declared.typing.StaticType.{StaticType}
@@ -31,7 +34,7 @@ use Rattle.expression_laws.proofs.Params.{none_has}
 use Rattle.fact_laws.specs.Regions.{SharesNoPoint}
 use Rattle.code_rules.specs.Slots.{Where, bound}
 use Rattle.code_laws.specs.Simple.{IsRegion, a_region_type, term_in}
-use Rattle.code_laws.specs.Steps.{Forms, Taking, without_pointers}
+use Rattle.code_laws.specs.Steps.{Forms, Taking}
 use Rattle.code_laws.specs.Arguments.{name_at}
 use Rattle.code_laws.specs.Typed.{ArePassed, IsCallable}
 use Rattle.code_laws.proofs.Arguments.{first_region, named_typed}
@@ -39,9 +42,11 @@ use Rattle.code_laws.proofs.LocalGiven.{IsHandedAt, handed_at}
 use Rattle.fit_rules.specs.Shapes.{Among, Are, Each, Is, KnowsRoots, World}
 use Rattle.fit_rules.specs.Marks.{Fact, Holds, LiesIn, Mark, Suits}
 use Rattle.marked_code.proofs.Placed.{below}
+use Rattle.sound_code.specs.WholeTasks.{are_whole_arguments}
 use Rattle.sound_code.specs.Ways.{by_rules, opening_facts}
+use Rattle.sound_code.proofs.Wholes.{Asks, no_part_at}
 use Rattle.sound_code.proofs.Accepted.{stands_in}
-use Rattle.sound_code.proofs.Claims.{claims_apart, claims_within, each_claimed, IsClaimed}
+use Rattle.sound_code.proofs.Claims.{claims_apart, claims_parted, claims_within, each_claimed, IsClaimed}
 use Rattle.sound_code.proofs.Grounds.{HasFacts, Kept, OfType}
 use Rattle.sound_code.proofs.Handed.{all_handed, argument_at, given_in, is_given_region, IsGiven, region_numbered}
 use Rattle.sound_code.proofs.Interpreting.{apart_by_number, meant, region_at}
@@ -107,8 +112,8 @@ module _ (task : TaskTree) (t : TaskCode) (w : Where) (kept : Kept t task w.tree
       held : (k : Fact) → Among ks k → Holds k vs
       held k h = each_among (λ f. Holds f vs) m.facts k (facts k h) suits.facts
 
-  module _ (forms : Forms) (y : Taking) (takes : forms.takes ≡ Some y) (name : Name) (ts : List StaticType) (es : Expressions) (is : IsCallable (without_pointers forms) w name es)
-      (passed : ArePassed (without_pointers forms) w ts (param_types w.tree (task_named w.tree name)) es)
+  module _ (forms : Forms) (y : Taking) (takes : forms.takes ≡ Some y) (name : Name) (ts : List StaticType) (es : Expressions) (is : IsCallable forms w name es)
+      (passed : ArePassed forms w ts (param_types w.tree (task_named w.tree name)) es) (whole : Asks forms.keeps (are_whole_arguments true w (param_types w.tree (task_named w.tree name)) es))
       (are : Are x (all_handed w (param_types w.tree (task_named w.tree name)) es) ws) (told : ToldCall (by_rules task) w.tree w.scope name es) where
     abbrev callee : TaskTree
     callee = task_named w.tree name
@@ -138,13 +143,13 @@ module _ (task : TaskTree) (t : TaskCode) (w : Where) (kept : Kept t task w.tree
       numbered : IsNumbered type value
 
     region_argument : (k : ℕ) → is_region (type_at types k) ≡ true → IsRegionArgument k
-    region_argument k e = ⊎_elim of_name (λ h. absurd (false≢true h.keeps)) (handed_at (without_pointers forms) y takes w ts types es passed k e)
+    region_argument k e = ⊎_elim of_name (λ h. absurd (no_part_at w types es k (h.name, h.index) (whole h.keeps) h.at h.cut)) (handed_at forms y takes w ts types es passed k e)
       where
         of_name : IsHandedAt w es k (type_at types k) → IsRegionArgument k
         of_name a =
             let u = (bound w a.name).static_type in
             let r = first_region u (type_at types k) a.regions in
-            let v = argument_at forms w x ts types es ws k a.name passed are a.at r in record {
+            let v = argument_at forms w x ts types es ws k a.name passed whole are a.at r in record {
               type = u;
               value = v.it;
               at = v.at;
@@ -199,6 +204,8 @@ module _ (task : TaskTree) (t : TaskCode) (w : Where) (kept : Kept t task w.tree
             of : (b : Bool) → has q.points p ≡ b → has q.points p ≡ false
             of true e = absurd (none r.root.0 p (refl, ip) (sym same, e))
             of false e = e
+    -- no parameter is a partition
+    fact_told _ (claims_parted p r d h) = absurd (no_cut_told (scope_of w.tree callee).names (no_cuts forms w ts types es passed whole) (PartOf p r d) h)
 
     pub facts_told : Each (λ f. Holds f ws) (opening_facts (by_rules callee) w.tree callee)
     facts_told = each_claimed w.tree callee callee_sound (λ f. Holds f ws) fact_told

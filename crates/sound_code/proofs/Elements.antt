@@ -17,7 +17,8 @@ use Rattle.regent_tree.specs.declared.types.Param.{Param}
 use Rattle.regent_tree.specs.declared.types.TypeTerm.TheVariants as term
 use Rattle.regent_tree.specs.declared.typing.StaticType.{StaticType}
 use Rattle.regent_tree.specs.Accesses.{space_in}
-use Rattle.regent_tree.specs.StaticTypes.{field_kind, field_kinds, field_place, kind_said, space_at}
+use Rattle.regent_tree.specs.StaticTypes.{field_kind, field_kinds, field_place, field_term, kind_said, space_at}
+use Rattle.value_laws.specs.Shapes.{regions_listed}
 use Rattle.regent_tree.specs.Syntax.{Name, Tree, Expression, no_step, field_step, at_step}
 use Rattle.regent_tree.specs.Typing.{type_of_element}
 use Rattle.task_code.specs.declared.code.TaskCode.{TaskCode}
@@ -25,20 +26,22 @@ use Rattle.task_code.specs.declared.instr.Instr.TheVariants as instr
 use Rattle.machine_terms.specs.Contents.{kinds_of}
 use Rattle.code_rules.specs.Assignments.{put_code, slot_behind}
 use Rattle.code_rules.specs.Expressions.{expr_code, steps_code}
-use Rattle.code_rules.specs.Instructions.{load_code, one, standing_code}
+use Rattle.code_rules.specs.Instructions.{load_code, one}
 use Rattle.code_rules.specs.Pieces.{Piece, ◌⨟◌}
 use Rattle.code_rules.specs.Programs.{code_of}
 use Rattle.code_rules.specs.Slots.{Where, own_slot, slot, slots_of, typed}
-use Rattle.code_laws.specs.Simple.{FieldFits, fits_32, fits_64, fits_truth, IsInteger, an_integer, IsNumber, number_integer, number_index, IsRegion, a_region_type}
+use Rattle.code_laws.specs.Pointers.{FieldKeeps, IsCounting, KeepsAs, keeps_index, keeps_plain, keeps_pointer}
+use Rattle.code_laws.specs.Simple.{fits_32, fits_64, fits_truth, IsInteger, an_integer, IsRegion, a_region_type}
 use Rattle.code_laws.specs.Standing.{Stands}
 use Rattle.code_laws.proofs.Reaching.{kinds_are}
-use Rattle.fit_rules.specs.Shapes.{Shape, pointer, Numeric, numeric_integer, numeric_index}
+use Rattle.fit_rules.specs.Shapes.{Shape, pointer, Numeric}
 use Rattle.fit_rules.specs.Marks.{Mark, stacked}
 use Rattle.fit_rules.specs.Fits.{Program, count_at, kept_as, kind_at, shape_at}
 use Rattle.fit_rules.specs.Sound.{HasRegion, Allowed, Through, does_element, does_read, does_write, does_reduce, does_fill}
 use Rattle.sound_code.specs.Ways.{Way, shape_of}
 use Rattle.sound_code.proofs.Asked.{Known}
 use Rattle.sound_code.proofs.Combining.{Marked, nothing_done, both, does}
+use Rattle.sound_code.proofs.Counting.{counted_numeric, standing_counted}
 
 -- ---- fields
 
@@ -48,17 +51,15 @@ kind_in tree sp place =
     ap (λ ks. get_or ks place kind.Truth) (sym (map-map kind_said (λ (p : Param). p.term) ps))
     ∙ get_or-map kind_said (map (λ (p : Param). p.term) ps) place term.Truth
 
-kept_fits : (q : FieldKind) (n : ℕ) (out : StaticType) → FieldFits q out → kept_as q n ≡ shape_of out
-kept_fits _ n _ fits_32 = refl
-kept_fits _ n _ fits_64 = refl
-kept_fits _ n _ fits_truth = refl
-
-pub number_numeric : (u : StaticType) → IsNumber u → Numeric (shape_of u)
-number_numeric _ (number_integer w) = numeric_integer w
-number_numeric _ (number_index k) = numeric_index
+kept_fits : (q : FieldKind) (n : ℕ) (out : StaticType) → KeepsAs q n out → kept_as q n ≡ shape_of out
+kept_fits _ n _ (keeps_plain _ _ _ fits_32) = refl
+kept_fits _ n _ (keeps_plain _ _ _ fits_64) = refl
+kept_fits _ n _ (keeps_plain _ _ _ fits_truth) = refl
+kept_fits _ n _ (keeps_index _ k) = refl
+kept_fits _ _ _ (keeps_pointer k sp args rs names few) = refl
 
 module _ (g : Program) (tree : Tree) (way : Way) (known : Known way g tree) where
-  kind_same : (sp place : ℕ) → kind_at g sp place ≡ field_kind tree sp place
+  pub kind_same : (sp place : ℕ) → kind_at g sp place ≡ field_kind tree sp place
   kind_same sp place = ap (λ c. get_or (kinds_of c sp) place kind.Truth) known.code
       ∙ ap (λ ks. get_or ks place kind.Truth) (kinds_are (code_of tree) tree sp refl) ∙ kind_in tree sp place
 
@@ -68,9 +69,10 @@ module _ (g : Program) (tree : Tree) (way : Way) (known : Known way g tree) wher
       ∙ length-map (space_at tree sp).fields (λ (p : Param). kind_said p.term) in
       omega (arith, l, e)
 
-  field_shape : (sp place : ℕ) (out : StaticType) → FieldFits (field_kind tree sp place) out → shape_at g sp place ≡ shape_of out
+  pub field_shape : (sp place : ℕ) (out : StaticType) → FieldKeeps (field_term tree sp place) out → shape_at g sp place ≡ shape_of out
   field_shape sp place out h = ap (λ q. kept_as q (g.positions sp place)) (kind_same sp place)
-      ∙ kept_fits (field_kind tree sp place) (g.positions sp place) out h
+      ∙ ap (kept_as (field_kind tree sp place)) (known.positions sp place)
+      ∙ kept_fits (field_kind tree sp place) (regions_listed (field_term tree sp place)) out h
 
 -- ---- elements
 
@@ -82,14 +84,10 @@ module _ (g : Program) (t : TaskCode) (k : ℕ) (way : Way) (w : Where) (m : Mar
   abbrev pub MayTouch : StaticType → ℕ → Name → Mode → Type 0
   MayTouch u s f a = (us : List Shape) → Allowed g t (stacked m us) (space_in u) (field_place w.tree (space_in u) f) a s
 
-  standing_number : (u : StaticType) (us : List Shape) → IsNumber u → Marked g t k (stacked m us) (standing_code w u) (stacked m us)
-  standing_number _ us (number_integer v) = nothing_done g t k _
-  standing_number _ us (number_index v) = nothing_done g t k _
-
   pub reads : (u : StaticType) (place : ℕ) (e : Expression) (f : Name) (out : StaticType) (d : ℕ) (us : List Shape) → IsRegion u →
-      HasRegion m (Some (space_in u)) (slot w place) → IsNumber (typed w e) →
+      HasRegion m (Some (space_in u)) (slot w place) → IsCounting (typed w e) →
       slots_of w (slot w place) (type_of_element w.scope u e) ≡ slot w place ∷ [] → MayTouch u (slot w place) f mode.Read →
-      FieldFits (field_kind w.tree (space_in u) (field_place w.tree (space_in u) f)) out →
+      FieldKeeps (field_term w.tree (space_in u) (field_place w.tree (space_in u) f)) out →
       ((pc : ℕ) → Stands t.body pc (expr_code w d e) →
       Marked g t k (stacked m us) (expr_code w d e) (stacked m (shape_of (typed w e) ∷ us))) → (pc : ℕ) →
       Stands t.body pc (load_code w u (slot w place) (at_step e (field_step f no_step))
@@ -102,9 +100,9 @@ module _ (g : Program) (t : TaskCode) (k : ℕ) (way : Way) (w : Where) (m : Mar
       let s = slot w place in
       let fp = field_place w.tree sp f in
       both g t k (nothing_done g t k _)
-      (both g t k (marked pc st.1.0) (both g t k (standing_number (typed w e) _ h)
+      (both g t k (marked pc st.1.0) (both g t k (standing_counted g t k w m (typed w e) _ h)
       (both g t k (does g t k _ (instr.At s) w.line (pointer 1 ∷ us)
-      (does_element s (Some sp) _ us (record { origin = there.origin; shape = there.shape }) (number_numeric _ h)))
+      (does_element s (Some sp) _ us (record { origin = there.origin; shape = there.shape }) (counted_numeric _ h)))
       (both g t k (nothing_done g t k _)
       (both g t k
       (subst (λ y. Marked g t k (stacked m (pointer 1 ∷ us)) (one w (instr.Read y fp)) (stacked m (shape_of out ∷ us))) (sym goes)
@@ -116,9 +114,9 @@ module _ (g : Program) (t : TaskCode) (k : ℕ) (way : Way) (w : Where) (m : Mar
 
   -- a value goes into the field
   module _ (u : StaticType) (place : ℕ) (e : Expression) (f : Name) (out : StaticType) (us : List Shape) (is : IsRegion u)
-      (there : HasRegion m (Some (space_in u)) (slot w place)) (h : IsNumber (typed w e))
+      (there : HasRegion m (Some (space_in u)) (slot w place)) (h : IsCounting (typed w e))
       (goes : slots_of w (slot w place) (type_of_element w.scope u e) ≡ slot w place ∷ [])
-      (fits : FieldFits (field_kind w.tree (space_in u) (field_place w.tree (space_in u) f)) out) where
+      (fits : FieldKeeps (field_term w.tree (space_in u) (field_place w.tree (space_in u) f)) out) where
     -- the code of a target
     abbrev pub aimed : StaticType → How → Piece
     aimed v o = (load_code w v (slot w place) (at_step e no_step)
@@ -132,16 +130,16 @@ module _ (g : Program) (t : TaskCode) (k : ℕ) (way : Way) (w : Where) (m : Mar
       where
         of_region : (v : StaticType) → IsRegion v → HasRegion m (Some (space_in v)) (slot w place) →
             slots_of w (slot w place) (type_of_element w.scope v e) ≡ slot w place ∷ [] → MayTouch v (slot w place) f mode.Write →
-            FieldFits (field_kind w.tree (space_in v) (field_place w.tree (space_in v) f)) out →
+            FieldKeeps (field_term w.tree (space_in v) (field_place w.tree (space_in v) f)) out →
             Stands t.body pc (aimed v how.Set) → Marked g t k (stacked m (shape_of out ∷ us)) (aimed v how.Set) (stacked m us)
         of_region _ (a_region_type q sp args r) there goes may fits st =
             let s = slot w place in
             let fp = field_place w.tree sp f in
             let us1 : List Shape = pointer 1 ∷ shape_of out ∷ us in
             both g t k
-            (both g t k (nothing_done g t k _) (both g t k (marked _ st.0.1.0) (both g t k (standing_number (typed w e) _ h)
+            (both g t k (nothing_done g t k _) (both g t k (marked _ st.0.1.0) (both g t k (standing_counted g t k w m (typed w e) _ h)
             (both g t k (does g t k _ (instr.At s) w.line us1
-            (does_element s (Some sp) _ _ (record { origin = there.origin; shape = there.shape }) (number_numeric _ h)))
+            (does_element s (Some sp) _ _ (record { origin = there.origin; shape = there.shape }) (counted_numeric _ h)))
             (both g t k (nothing_done g t k _) (nothing_done g t k _))))))
             (subst (λ y. Marked g t k (stacked m us1) (one w (instr.Write y fp (width_of (field_kind w.tree sp fp)))) (stacked m us)) (sym goes)
             (subst (λ y. Marked g t k (stacked m us1) (one w (instr.Write (s ∷ []) fp (width_of y))) (stacked m us)) (kind_same g w.tree way known sp fp)
@@ -159,16 +157,16 @@ module _ (g : Program) (t : TaskCode) (k : ℕ) (way : Way) (w : Where) (m : Mar
         of_region : (v : StaticType) → IsRegion v → HasRegion m (Some (space_in v)) (slot w place) →
             slots_of w (slot w place) (type_of_element w.scope v e) ≡ slot w place ∷ [] → MayTouch v (slot w place) f (mode.Reduce o) →
             (out : StaticType) → IsInteger out →
-            FieldFits (field_kind w.tree (space_in v) (field_place w.tree (space_in v) f)) out →
+            FieldKeeps (field_term w.tree (space_in v) (field_place w.tree (space_in v) f)) out →
             Stands t.body pc (aimed v (how.Reduce o)) → Marked g t k (stacked m (a ∷ us)) (aimed v (how.Reduce o)) (stacked m us)
         of_region _ (a_region_type q sp args r) there goes may _ (an_integer wd) fits st =
             let s = slot w place in
             let fp = field_place w.tree sp f in
             let us1 : List Shape = pointer 1 ∷ a ∷ us in
             both g t k
-            (both g t k (nothing_done g t k _) (both g t k (marked _ st.0.1.0) (both g t k (standing_number (typed w e) _ h)
+            (both g t k (nothing_done g t k _) (both g t k (marked _ st.0.1.0) (both g t k (standing_counted g t k w m (typed w e) _ h)
             (both g t k (does g t k _ (instr.At s) w.line us1
-            (does_element s (Some sp) _ _ (record { origin = there.origin; shape = there.shape }) (number_numeric _ h)))
+            (does_element s (Some sp) _ _ (record { origin = there.origin; shape = there.shape }) (counted_numeric _ h)))
             (both g t k (nothing_done g t k _) (nothing_done g t k _))))))
             (subst (λ y. Marked g t k (stacked m us1) (one w (instr.Reduce y fp o (width_of (field_kind w.tree sp fp)))) (stacked m us)) (sym goes)
             (subst (λ y. Marked g t k (stacked m us1) (one w (instr.Reduce (s ∷ []) fp o (width_of y))) (stacked m us)) (kind_same g w.tree way known sp fp)
@@ -178,7 +176,7 @@ module _ (g : Program) (t : TaskCode) (k : ℕ) (way : Way) (w : Where) (m : Mar
 
   -- a field of a whole region is filled
   pub fills : (u : StaticType) (s : ℕ) (f : Name) (out : StaticType) (us : List Shape) → IsRegion u → MayTouch u s f mode.Write →
-      FieldFits (field_kind w.tree (space_in u) (field_place w.tree (space_in u) f)) out →
+      FieldKeeps (field_term w.tree (space_in u) (field_place w.tree (space_in u) f)) out →
       Marked g t k (stacked m (shape_of out ∷ us))
       (one w (instr.Fill s (field_place w.tree (space_in u) f) (width_of (field_kind w.tree (space_in u) (field_place w.tree (space_in u) f)))))
       (stacked m us)

@@ -1,46 +1,47 @@
 -- The code of expressions has marks: each leads from a mark to the same with a value on the stack.
-use Rattle.code_laws.proofs.Arguments.{given_either}
-use Rattle.std.proofs.Common.{◌≡◌, inl, ℕ, ◌<◌, ◌≤◌, List, [], ◌∷◌, Bool, true, false, Some, refl, sym, ap, ◌∙◌, subst, arith}
+use Rattle.code_laws.proofs.Wider.{any_field, compared, converting, counting, signed_as}
+use Rattle.code_laws.specs.Pointers.{HasSigns, signs_counted, signs_plain}
+use Rattle.regent_tree.specs.declared.expression.Sign.TheVariants.{Minus}
+use Rattle.std.proofs.Common.{◌≡◌, inl, ℕ, ◌<◌, ◌≤◌, List, [], ◌∷◌, Some, refl, sym, ap, ◌∙◌, subst, arith, ⊎_elim, true}
 use Rattle.std.specs.Prelude.{length}
-use Rattle.std.proofs.lemmas.Bool.{false≢true}
 use Rattle.std.proofs.lemmas.List.{length-set}
-use Rattle.regent_tree.specs.declared.expression.Arithmetic.{Arithmetic}
-use Rattle.regent_tree.specs.declared.expression.Comparison.{Comparison}
 use Rattle.regent_tree.specs.declared.expression.Operator.TheVariants.{Or, And, Compare, Compute}
 use Rattle.regent_tree.specs.declared.expression.Sign.{Sign}
 use Rattle.regent_tree.specs.declared.typing.StaticType.{StaticType}
 use Rattle.regent_tree.specs.declared.typing.StaticType.TheVariants.{Integer as integer_type, Truth as truth_type}
-use Rattle.lane_kernels.specs.declared.numbers.Width.TheVariants.{W32, W64}
-use Rattle.regent_tree.specs.declared.types.NumberTerm.{NumberTerm}
-use Rattle.regent_tree.specs.StaticTypes.{number_type, task_named}
+use Rattle.regent_tree.specs.StaticTypes.{task_named}
 use Rattle.regent_tree.specs.Syntax.{Name, Expression, number_expr, truth_expr, chain_expr, prefix_expr, access_expr, call_expr, convert_expr, space_expr, Expressions, no_expr, an_expr, Links, no_link, a_link, no_step, field_step, at_step, is_null_expr, null_expr, cast_expr}
-use Rattle.regent_tree.specs.Typing.{operated, linked_type, param_types, params_at, signed_type}
+use Rattle.regent_tree.specs.Typing.{linked_type, param_types, params_at, signed_type}
 use Rattle.regent_tree.specs.Values.{kept_truth}
 use Rattle.task_code.specs.declared.code.TaskCode.{TaskCode}
 use Rattle.task_code.specs.declared.instr.Instr.TheVariants as instr
-use Rattle.machine_terms.specs.declared.value.Value.{Value}
 use Rattle.machine_terms.specs.Jumps.{fetch}
 use Rattle.code_rules.specs.Pieces.{Piece, ◌⨟◌, line_of, over}
 use Rattle.code_rules.specs.Expressions.{expr_code, exprs_code, links_code}
-use Rattle.code_rules.specs.Instructions.{converted_code, signs_code, standing_code, operand_code, operating, as_number_code, one, place_of_task}
+use Rattle.code_rules.specs.Instructions.{converted_code, signs_code, standing_code, one, place_of_task}
 use Rattle.code_rules.specs.Slots.{Where, bound, spare, typed, slot_named}
-use Rattle.code_laws.specs.Simple.{IsSimple, AreComparable, compare_numbers, compare_truths, simple_integer, simple_truth, simple_space, simple_index, IsInteger, an_integer, IsTruth, a_truth_type, AreAlike, two_integers, two_truths, IsScalar, scalar_integer, IsNumber, number_integer, number_index, SignsFit, of_a_truth, of_an_integer, not_before, minus_before, IsIntegerTerm, term_32, term_64}
+use Rattle.code_laws.specs.Simple.{IsSimple, simple_integer, simple_truth, simple_space, simple_index, IsInteger, an_integer, IsTruth, a_truth_type, IsScalar, scalar_integer, SignsFit, of_a_truth, of_an_integer, not_before, minus_before}
 use Rattle.code_laws.specs.Standing.{Stands}
-use Rattle.code_laws.specs.Steps.{Forms, without_pointers}
-use Rattle.code_laws.specs.Typed.{ArePassed, IsTyped, AreTypedLinks}
-use Rattle.fit_rules.specs.Shapes.{numeric_index, Are, are_more, index, is_number, World, Shape, awaited, integer, truth, space, Numeric, numeric_integer, numeric_truth}
+use Rattle.code_laws.specs.Steps.{Forms}
+use Rattle.code_laws.specs.Typed.{ArePassed, IsIndexed, IsTyped, AreTypedLinks}
+use Rattle.fit_rules.specs.Shapes.{Shape, awaited, integer, truth, space, Numeric, numeric_integer, numeric_truth}
 use Rattle.fit_rules.specs.Marks.{Mark, stacked}
 use Rattle.fit_rules.specs.Fits.{Program}
-use Rattle.fit_rules.specs.Sound.{Settled, settled_number, settled_space, does_num, does_load, does_compute, does_compare, does_negate, does_wrap, does_invert, does_space}
+use Rattle.fit_rules.specs.Sound.{does_num, does_load, does_negate, does_invert, does_space}
 use Rattle.marked_code.specs.Marked.{leads_waiting, typed_op, typed_and, typed_or}
 use Rattle.fit_laws.proofs.Keeping.{get_set, set_mark}
 use Rattle.sound_code.specs.Named.{slot_at, HasSlots}
 use Rattle.sound_code.specs.Ways.{Way, shape_of}
 use Rattle.sound_code.proofs.Granting.{allowed, May}
-use Rattle.sound_code.proofs.Handed.{all_handed, handed, handed_unconverted, scalar_handed}
+use Rattle.sound_code.specs.WholeTasks.{are_whole_arguments, are_whole_links, is_whole_expression}
+use Rattle.sound_code.proofs.Counting.{becomes, compares, compute_counted, number_counted, signs_counted as counted_signs, standing_counted}
+use Rattle.sound_code.proofs.Wholes.{Asks, asks_first, asks_second, Becomes, given_whole, HasFew, read_worth, value_worth, whole_argument, worth_few, worth_named, worth_settled}
+use Rattle.sound_code.proofs.Handed.{all_handed, handed, handed_unconverted, worth_handed}
+use Rattle.sound_code.proofs.Cutting.{colours_marked}
+use Rattle.sound_code.proofs.Pointing.{behind_marked, cast_marked, element_at, null_asked, null_marked}
 use Rattle.sound_code.proofs.Handing.{calls, handed_marked}
 pub use Rattle.sound_code.proofs.Placing.{named_at, placed_at, region_named, simple_named}
-use Rattle.sound_code.proofs.Told.{Told, ToldArgs, ToldLinks, told_arg, told_call, told_called, told_chain, told_convert, told_element, told_link, told_prefix, told_space}
+use Rattle.sound_code.proofs.Told.{Told, ToldArgs, ToldLinks, told_arg, told_at, told_call, told_called, told_cast, told_chain, told_convert, told_element, told_is_null, told_link, told_prefix, told_space}
 use Rattle.sound_code.proofs.Wanting.{may_read}
 use Rattle.sound_code.proofs.Steady.{steady_stand}
 use Rattle.expression_laws.specs.Needs.{mode_of}
@@ -49,11 +50,11 @@ use Rattle.regent_tree.specs.StaticTypes.{field_place}
 use Rattle.regent_tree.specs.declared.rights.Access.{Access}
 use Rattle.regent_tree.specs.declared.rights.Access.TheVariants.{Read}
 use Rattle.fit_rules.specs.Sound.{Allowed}
-use Rattle.code_laws.specs.Typed.{IsField}
+use Rattle.code_laws.specs.Typed.{IsAnyField}
 use Rattle.sound_code.proofs.Asked.{Asked}
-use Rattle.sound_code.proofs.Calling.{alike_second, onto, scalar_numeric}
+use Rattle.sound_code.proofs.Calling.{onto, scalar_numeric}
 use Rattle.sound_code.proofs.Combining.{Marked, nothing_done, both, does, into, behind_kept, slot_high, storing}
-use Rattle.sound_code.proofs.Elements.{number_numeric, reads}
+use Rattle.sound_code.proofs.Elements.{reads}
 use Rattle.sound_code.proofs.Narrowing.{narrow_itself, narrow_set, narrow_into, same_facts}
 use Rattle.fit_laws.proofs.Numbers.{truth_is}
 
@@ -65,27 +66,11 @@ signs_keep _ _ (of_an_integer w) = refl
 signs_keep _ _ (not_before ss h) = refl
 signs_keep _ _ (minus_before w ss h) = refl
 
-signs_plain : (t : StaticType) (ss : List Sign) → SignsFit t ss → IsSimple t
-signs_plain _ _ of_a_truth = simple_truth
-signs_plain _ _ (of_an_integer w) = simple_integer w
-signs_plain _ _ (not_before ss h) = simple_truth
-signs_plain _ _ (minus_before w ss h) = simple_integer w
-
-number_simple : (t : StaticType) → IsNumber t → IsSimple t
-number_simple _ (number_integer w) = simple_integer w
-number_simple _ (number_index c) = simple_index c
-
-comparable_first : (t u : StaticType) → AreComparable t u → IsSimple t
-comparable_first _ _ (compare_numbers t u a b) = number_simple t a
-comparable_first _ _ compare_truths = simple_truth
-
-comparable_second : (t u : StaticType) → AreComparable t u → IsSimple u
-comparable_second _ _ (compare_numbers t u a b) = number_simple u b
-comparable_second _ _ compare_truths = simple_truth
-
--- a number of 64 bits is an index
-as_index : (x : World) (us : List Shape) (st : List Value) → Are x (integer W64 ∷ us) st → Are x (index ∷ us) st
-as_index x us _ (are_more _ _ _ vs (is_number _ z p) a) = are_more index _ us vs (is_number index z p) a
+plain_signs : (t : StaticType) (ss : List Sign) → SignsFit t ss → IsSimple t
+plain_signs _ _ of_a_truth = simple_truth
+plain_signs _ _ (of_an_integer w) = simple_integer w
+plain_signs _ _ (not_before ss h) = simple_truth
+plain_signs _ _ (minus_before w ss h) = simple_integer w
 
 pub integer_is_plain : (t : StaticType) → IsInteger t → IsScalar t
 integer_is_plain _ (an_integer w) = scalar_integer w
@@ -93,24 +78,7 @@ integer_is_plain _ (an_integer w) = scalar_integer w
 pub truth_shape : (t : StaticType) → IsTruth t → shape_of t ≡ truth
 truth_shape _ a_truth_type = refl
 
-pub simple_settled : (u : StaticType) → IsSimple u → Settled (shape_of u)
-simple_settled _ (simple_integer w) = settled_number _ (numeric_integer w)
-simple_settled _ simple_truth = settled_number _ numeric_truth
-simple_settled _ (simple_space c) = settled_space
-simple_settled _ (simple_index c) = settled_number _ numeric_index
-
 -- ---- expressions
-
--- a value is converted to an alike type
-pub converted_at : (g : Program) (t : TaskCode) (k : ℕ) (w : Where) (m : Mark) (u v : StaticType) (us : List Shape) → AreAlike u v →
-    Marked g t k (stacked m (shape_of u ∷ us)) (converted_code w u v) (stacked m (shape_of v ∷ us))
-converted_at g t k w m _ _ us (two_integers W32 W32) = nothing_done g t k _
-converted_at g t k w m _ _ us (two_integers W32 W64) =
-    does g t k (stacked m (integer W32 ∷ us)) (instr.Wrap W64) w.line _ (does_wrap W64 (integer W32) us (numeric_integer W32))
-converted_at g t k w m _ _ us (two_integers W64 W32) =
-    does g t k (stacked m (integer W64 ∷ us)) (instr.Wrap W32) w.line _ (does_wrap W32 (integer W64) us (numeric_integer W64))
-converted_at g t k w m _ _ us (two_integers W64 W64) = nothing_done g t k _
-converted_at g t k w m _ _ us two_truths = nothing_done g t k _
 
 module _ (g : Program) (t : TaskCode) (k slots : ℕ) (have : HasSlots t slots) (forms : Forms) (way : Way) (w : Where) (m : Mark)
     (asked : Asked g t k slots forms way w m) where
@@ -128,10 +96,6 @@ module _ (g : Program) (t : TaskCode) (k slots : ℕ) (have : HasSlots t slots) 
   standing_marked _ us (simple_space c) = nothing_done g t k _
   standing_marked _ us (simple_index c) = nothing_done g t k _
 
-  operand_marked : (b : Bool) (u : StaticType) (us : List Shape) → IsSimple u → Goes us (operand_code w b u) us
-  operand_marked true u us p = nothing_done g t k _
-  operand_marked false u us p = standing_marked u us p
-
   signs_marked : (u : StaticType) (ss : List Sign) (us : List Shape) → SignsFit u ss →
       Goes (shape_of u ∷ us) (signs_code w u ss) (shape_of u ∷ us)
   signs_marked _ _ us of_a_truth = nothing_done g t k _
@@ -142,38 +106,16 @@ module _ (g : Program) (t : TaskCode) (k slots : ℕ) (have : HasSlots t slots) 
       (does g t k (stacked m (integer v ∷ us)) (instr.Neg v) w.line (integer v ∷ us)
       (does_negate v (integer v) us (numeric_integer v)))
 
-  number_marked : (c : NumberTerm) (u : StaticType) (us : List Shape) → IsNumber u → IsIntegerTerm c →
-      Goes (shape_of u ∷ us) (as_number_code w c) (shape_of (number_type c) ∷ us)
-  number_marked _ u us h term_32 = does g t k _ (instr.Wrap W32) w.line _ (does_wrap W32 (shape_of u) us (number_numeric u h))
-  number_marked _ u us h term_64 = does g t k _ (instr.Wrap W64) w.line _ (does_wrap W64 (shape_of u) us (number_numeric u h))
-
-  pub converted_marked : (u v : StaticType) (us : List Shape) → AreAlike u v →
+  pub converted_marked : (u v : StaticType) (us : List Shape) → Becomes u v → HasFew v →
       Goes (shape_of u ∷ us) (converted_code w u v) (shape_of v ∷ us)
-  converted_marked u v us h = converted_at g t k w m u v us h
+  converted_marked u v us h few = becomes g t k w m u v us h few
 
-  index_marked : (us vs : List Shape) (p : Piece) → Goes us p (integer W64 ∷ vs) → Goes us p (index ∷ vs)
-  index_marked us vs p f = into g t k f
-      (λ x ss st q. record { slots = q.slots; stack = as_index x vs st q.stack; facts = q.facts; top = tt; args = q.args }) refl
-
-  compute_marked : (c : Arithmetic) (u v : StaticType) (us : List Shape) → IsNumber u → IsNumber v →
-      Goes (shape_of v ∷ shape_of u ∷ us) (one w (operating (Compute c) u v)) (shape_of (operated (Compute c) u v) ∷ us)
-  compute_marked c _ _ us (number_integer a) (number_integer b) = does g t k _ _ w.line _
-      (does_compute c _ (integer a) (integer b) us (numeric_integer a) (numeric_integer b))
-  compute_marked c _ _ us (number_index i) (number_integer b) = index_marked _ us _ (does g t k _ _ w.line _
-      (does_compute c W64 index (integer b) us numeric_index (numeric_integer b)))
-  compute_marked c _ _ us (number_integer a) (number_index j) = index_marked _ us _ (does g t k _ _ w.line _
-      (does_compute c W64 (integer a) index us (numeric_integer a) numeric_index))
-  compute_marked c _ _ us (number_index i) (number_index j) = index_marked _ us _ (does g t k _ _ w.line _
-      (does_compute c W64 index index us numeric_index numeric_index))
-
-  compare_marked : (c : Comparison) (u v : StaticType) (us : List Shape) → AreComparable u v →
-      Goes (shape_of v ∷ shape_of u ∷ us) (one w (operating (Compare c) u v)) (truth ∷ us)
-  compare_marked c _ _ us (compare_numbers _ v (number_integer a) h) = does g t k _ _ w.line _
-      (does_compare c (integer a) (shape_of v) us (numeric_integer a) (number_numeric v h))
-  compare_marked c _ _ us (compare_numbers _ v (number_index i) h) = does g t k _ _ w.line _
-      (does_compare c index (shape_of v) us numeric_index (number_numeric v h))
-  compare_marked c _ _ us compare_truths = does g t k _ _ w.line _
-      (does_compare c truth truth us numeric_truth numeric_truth)
+  -- prefixes, behind what stands for a number
+  prefix_marked : (u : StaticType) (ss : List Sign) (us : List Shape) → HasSigns u ss →
+      Goes (shape_of u ∷ us) (standing_code w u ⨟ signs_code w u ss) (shape_of (signed_type ss u) ∷ us)
+  prefix_marked u ss us (signs_plain _ _ h) = both g t k (standing_marked u _ (plain_signs u ss h))
+      (subst (λ y. Goes (shape_of u ∷ us) (signs_code w u ss) (shape_of y ∷ us)) (sym (signs_keep u ss h)) (signs_marked u ss us h))
+  prefix_marked u _ us (signs_counted _ ss c h) = both g t k (standing_counted g t k w m u us c) (counted_signs g t k w m u (Minus ∷ ss) us c h)
 
   or_marked : (us : List Shape) (p : Piece) → Goes us p (truth ∷ us) → Goes (truth ∷ us) (over instr.OrJump w.line p) (truth ∷ us)
   or_marked us p f = record { marks = _; is = typed_or (stacked m (truth ∷ us)) truth us w.line p _ refl numeric_truth f.is }
@@ -200,7 +142,7 @@ module _ (g : Program) (t : TaskCode) (k slots : ℕ) (have : HasSlots t slots) 
       (sym (length-set m.slots s (awaited r)))
 
   -- an access to a field through a name that the rules grant
-  pub touched : (n f : Name) (out : StaticType) (a : Access) → IsField w n f out →
+  pub touched : (n f : Name) (out : StaticType) (a : Access) → IsAnyField w n f out →
       May way w.tree w.scope (bound w n).static_type (field_place w.tree (space_in (bound w n).static_type) f) a → (us : List Shape) →
       Allowed g t (stacked m us) (space_in (bound w n).static_type) (field_place w.tree (space_in (bound w n).static_type) f) (mode_of a) (slot_named w n)
   touched n f out a field may us = allowed g t w.tree w.params w.scope m asked.params way asked.known asked.ground asked.facts
@@ -209,99 +151,117 @@ module _ (g : Program) (t : TaskCode) (k slots : ℕ) (have : HasSlots t slots) 
       field.field may
 
   mutual
-    pub expr_marked : (d : ℕ) (e : Expression) (us : List Shape) → IsTyped (without_pointers forms) w e → Told way w.tree w.scope e → (pc : ℕ) →
-        Stands t.body pc (expr_code w d e) → Goes us (expr_code w d e) (shape_of (typed w e) ∷ us)
-    expr_marked d (number_expr z v) us fine told pc st = does g t k _ (instr.Num z) w.line _ (does_num z (integer v) us fine)
-    expr_marked d (truth_expr b) us fine told pc st = does g t k _ (instr.Num (kept_truth b)) w.line _ (does_num _ truth us (truth_is b))
-    expr_marked d (access_expr x no_step) us fine told pc st =
-        let h = named_at way w.params m.slots w.scope.names x asked.ready.named fine.0 ∙ ap Some (simple_named way w.params _ fine.1) in
-        both g t k (does g t k _ (instr.Load (slot_named w x)) w.line _ (does_load _ _ us h (simple_settled _ fine.1))) (nothing_done g t k _)
-    expr_marked d (access_expr x (at_step e (field_step f no_step))) us fine told pc st =
-        let field = fine.3 in
+    pub expr_marked : (d : ℕ) (e : Expression) (us : List Shape) → IsTyped forms w e → Asks forms.keeps (is_whole_expression true w e) →
+        Told way w.tree w.scope e → (pc : ℕ) → Stands t.body pc (expr_code w d e) → Goes us (expr_code w d e) (shape_of (typed w e) ∷ us)
+    expr_marked d (number_expr z v) us fine whole told pc st = does g t k _ (instr.Num z) w.line _ (does_num z (integer v) us fine)
+    expr_marked d (truth_expr b) us fine whole told pc st = does g t k _ (instr.Num (kept_truth b)) w.line _ (does_num _ truth us (truth_is b))
+    expr_marked d (access_expr x no_step) us fine whole told pc st =
+        let is = read_worth forms.keeps _ fine.1 whole in
+        let h = named_at way w.params m.slots w.scope.names x asked.ready.named fine.0 ∙ ap Some (worth_named way w.params _ is) in
+        both g t k (does g t k _ (instr.Load (slot_named w x)) w.line _ (does_load _ _ us h (worth_settled _ is))) (nothing_done g t k _)
+    expr_marked d (access_expr x (at_step e (field_step f no_step))) us fine whole told pc st =
+        let field = any_field forms.keeps w x f _ fine.3 in
+        let number = counting forms.keeps _ fine.1 in
         let h = named_at way w.params m.slots w.scope.names x asked.ready.named field.named in
         reads g t k way w m asked.known (bound w x).static_type (bound w x).place e f _ d us field.region
-        (region_named way w.params m (slot_named w x) (bound w x).static_type field.region h) fine.1 fine.2
-        (touched x f _ Read field (may_read w x e f fine.1 field.region t way asked.ground told))
-        field.keeps (λ q s. expr_marked d e us fine.0 (told_element w.tree w.scope way x e f told) q s) pc st
-    expr_marked d (prefix_expr signs e) us fine told pc st =
-        both g t k (expr_marked d e us fine.0 (told_prefix w.tree w.scope way signs e told) pc st.0)
-        (both g t k (standing_marked (typed w e) _ (signs_plain _ signs fine.1))
-        (subst (λ y. Goes (shape_of (typed w e) ∷ us) (signs_code w (typed w e) signs) (shape_of y ∷ us))
-        (sym (signs_keep (typed w e) signs fine.1)) (signs_marked (typed w e) signs us fine.1)))
-    expr_marked d (chain_expr first rest) us fine told pc st =
+        (region_named way w.params m (slot_named w x) (bound w x).static_type field.region h) number fine.2
+        (touched x f _ Read field (may_read w x e f number field.region t way asked.ground told))
+        field.keeps (λ q s. expr_marked d e us fine.0 whole (told_element w.tree w.scope way x e f told) q s) pc st
+    expr_marked d (prefix_expr signs e) us fine whole told pc st =
+        both g t k (expr_marked d e us fine.0 whole (told_prefix w.tree w.scope way signs e told) pc st.0)
+        (prefix_marked (typed w e) signs us (signed_as forms.keeps _ signs fine.1))
+    expr_marked d (chain_expr first rest) us fine whole told pc st =
         let parts = told_chain w.tree w.scope way first rest told in
-        both g t k (expr_marked d first us fine.0 parts.0 pc st.0) (links_marked d (typed w first) rest us fine.1 parts.1 _ st.1)
-    expr_marked d (call_expr task args) us fine told pc st =
+        both g t k (expr_marked d first us fine.0 (asks_first _ _ _ whole) parts.0 pc st.0)
+        (links_marked d (typed w first) rest us fine.1 (asks_second _ _ _ whole) parts.1 _ st.1)
+    expr_marked d (call_expr task args) us fine whole told pc st =
         let u = task_named w.tree task in
         let place = place_of_task w.tree task in
         let types = param_types w.tree u in
         let same = asked.known.results place u fine.2.0 in
         let nr : Numeric (g.results place) = subst Numeric (sym same) (scalar_numeric _ fine.1) in
         subst (λ y. Goes us (expr_code w d (call_expr task args)) (y ∷ us)) same
-        (both g t k (args_marked d (params_at w.tree w.scope u args) types args us fine.3 (told_call w.tree w.scope way task args told) pc st.0)
-        (both g t k (calls g t k slots forms way w m asked task (params_at w.tree w.scope u args) args us fine.2 fine.3 (told_called w.tree w.scope way task args told))
+        (both g t k (args_marked d (params_at w.tree w.scope u args) types args us fine.3 whole (told_call w.tree w.scope way task args told) pc st.0)
+        (both g t k (calls g t k slots forms way w m asked task (params_at w.tree w.scope u args) args us fine.2 fine.3 whole (told_called w.tree w.scope way task args told))
         (awaited_marked (spare w d) (g.results place) us nr (omega arith) (stored _ (spare w d) st.1.1.0))))
-    expr_marked d (convert_expr c e) us fine told pc st = both g t k (expr_marked d e us fine.0 (told_convert w.tree w.scope way c e told) pc st.0)
-        (both g t k (standing_marked (typed w e) _ (number_simple _ fine.1)) (number_marked c (typed w e) us fine.1 fine.2))
-    expr_marked d (space_expr c e) us fine told pc st = both g t k (expr_marked d e us fine.0 (told_space w.tree w.scope way c e told) pc st.0)
+    expr_marked d (convert_expr c e) us fine whole told pc st =
+        let number = counting forms.keeps _ fine.1 in
+        both g t k (expr_marked d e us fine.0 whole (told_convert w.tree w.scope way c e told) pc st.0)
+        (both g t k (standing_counted g t k w m (typed w e) us number) (number_counted g t k w m c (typed w e) us number (converting forms.keeps c fine.2)))
+    expr_marked d (space_expr c e) us fine whole told pc st = both g t k (expr_marked d e us fine.0 whole (told_space w.tree w.scope way c e told) pc st.0)
         (does g t k (stacked m (shape_of (typed w e) ∷ us)) instr.Space w.line (space ∷ us)
         (does_space _ us (scalar_numeric _ (integer_is_plain _ fine.1))))
-    expr_marked d (access_expr x (field_step f no_step)) us fine told pc st = absurd (false≢true fine.0)
-    expr_marked d (access_expr x (at_step e no_step)) us fine told pc st = absurd (false≢true fine.0)
-    expr_marked d (is_null_expr e) us fine told pc st = absurd (false≢true fine.0)
-    expr_marked d (null_expr p) us fine told pc st = absurd (false≢true fine.0)
-    expr_marked d (cast_expr p e) us fine told pc st = absurd (false≢true fine.0)
-    expr_marked d _ us fine told pc st = absurd fine
+    expr_marked d (access_expr x (field_step f no_step)) us fine whole told pc st = ⊎_elim
+        (λ a. behind_marked g t k slots forms way w m asked d x f us fine.0 a.0 told) (λ c.
+        colours_marked g t k slots forms way w m asked d x f us (bound w x).static_type (bound w x).place c.partition
+        (named_at way w.params m.slots w.scope.names x asked.ready.named c.named)) fine.1
+    expr_marked d (access_expr x (at_step e no_step)) us fine whole told pc st =
+        let h = named_at way w.params m.slots w.scope.names x asked.ready.named fine.3 in
+        element_at g t k slots forms way w m asked (bound w x).static_type (bound w x).place d e us fine.4
+        (region_named way w.params m (slot_named w x) (bound w x).static_type fine.4 h) fine.2
+        (λ q s. expr_marked d e us fine.1 (asks_second _ _ _ whole) (told_at w.tree w.scope way x e told) q s) pc st
+    expr_marked d (is_null_expr e) us fine whole told pc st = both g t k (expr_marked d e us fine.2 whole (told_is_null w.tree w.scope way e told) pc st.0)
+        (null_asked g t k slots forms way w m asked (typed w e) us fine.1)
+    expr_marked d (null_expr p) us fine whole told pc st = null_marked g t k slots forms way w m asked (typed w (null_expr p)) us fine.1.0
+    expr_marked d (cast_expr p e) us fine whole told pc st =
+        let v = typed w (cast_expr p e) in
+        both g t k (expr_marked d e us fine.3 (asks_second _ _ _ whole) (told_cast w.tree w.scope way p e told) pc st.0)
+        (cast_marked g t k slots forms way w m asked (typed w e) v us fine.2 fine.1.0 fine.1.1 fine.4 (worth_few v (value_worth v (asks_first _ _ _ whole fine.0))))
+    expr_marked d _ us fine whole told pc st = absurd fine
 
-    pub links_marked : (d : ℕ) (u : StaticType) (ls : Links) (us : List Shape) → AreTypedLinks (without_pointers forms) w u ls → ToldLinks way w.tree w.scope ls → (pc : ℕ) →
-        Stands t.body pc (links_code w d u ls) →
+    pub links_marked : (d : ℕ) (u : StaticType) (ls : Links) (us : List Shape) → AreTypedLinks forms w u ls → Asks forms.keeps (are_whole_links true w ls) →
+        ToldLinks way w.tree w.scope ls → (pc : ℕ) → Stands t.body pc (links_code w d u ls) →
         Goes (shape_of u ∷ us) (links_code w d u ls) (shape_of (linked_type w.tree w.scope u ls) ∷ us)
-    links_marked d u no_link us fine told pc st = nothing_done g t k _
-    links_marked d u (a_link Or e rest) us fine told pc st =
+    links_marked d u no_link us fine whole told pc st = nothing_done g t k _
+    links_marked d u (a_link Or e rest) us fine whole told pc st =
         let parts = told_link w.tree w.scope way Or e rest told in
         subst (λ y. Goes (y ∷ us) (links_code w d u (a_link Or e rest)) (shape_of (linked_type w.tree w.scope truth_type rest) ∷ us))
         (sym (truth_shape u fine.0))
         (both g t k (or_marked us (expr_code w d e) (subst (λ y. Goes us (expr_code w d e) (y ∷ us))
-        (truth_shape _ fine.1) (expr_marked d e us fine.2 parts.0 _ st.0.1)))
-        (links_marked d truth_type rest us fine.3 parts.1 _ st.1))
-    links_marked d u (a_link And e rest) us fine told pc st =
+        (truth_shape _ fine.1) (expr_marked d e us fine.2 (asks_first _ _ _ whole) parts.0 _ st.0.1)))
+        (links_marked d truth_type rest us fine.3 (asks_second _ _ _ whole) parts.1 _ st.1))
+    links_marked d u (a_link And e rest) us fine whole told pc st =
         let parts = told_link w.tree w.scope way And e rest told in
         subst (λ y. Goes (y ∷ us) (links_code w d u (a_link And e rest)) (shape_of (linked_type w.tree w.scope truth_type rest) ∷ us))
         (sym (truth_shape u fine.0))
         (both g t k (and_marked us (expr_code w d e) (subst (λ y. Goes us (expr_code w d e) (y ∷ us))
-        (truth_shape _ fine.1) (expr_marked d e us fine.2 parts.0 _ st.0.1)))
-        (links_marked d truth_type rest us fine.3 parts.1 _ st.1))
-    links_marked d u (a_link (Compute c) e rest) us fine told pc st =
+        (truth_shape _ fine.1) (expr_marked d e us fine.2 (asks_first _ _ _ whole) parts.0 _ st.0.1)))
+        (links_marked d truth_type rest us fine.3 (asks_second _ _ _ whole) parts.1 _ st.1))
+    links_marked d u (a_link (Compute c) e rest) us fine whole told pc st =
         let parts = told_link w.tree w.scope way (Compute c) e rest told in
-        both g t k (operand_marked false u _ (number_simple u fine.0))
-        (both g t k (expr_marked d e _ fine.2 parts.0 _ st.1.0)
-        (both g t k (operand_marked false (typed w e) _ (number_simple _ fine.1))
-        (both g t k (compute_marked c u (typed w e) us fine.0 fine.1)
-        (links_marked d _ rest us fine.3 parts.1 _ st.1.1.1.1))))
-    links_marked d u (a_link (Compare c) e rest) us fine told pc st =
+        let one = counting forms.keeps u fine.0 in
+        let two = counting forms.keeps (typed w e) fine.1 in
+        both g t k (standing_counted g t k w m u us one)
+        (both g t k (expr_marked d e _ fine.2 (asks_first _ _ _ whole) parts.0 _ st.1.0)
+        (both g t k (standing_counted g t k w m (typed w e) _ two)
+        (both g t k (compute_counted g t k w m c u (typed w e) us one two)
+        (links_marked d _ rest us fine.3 (asks_second _ _ _ whole) parts.1 _ st.1.1.1.1))))
+    links_marked d u (a_link (Compare c) e rest) us fine whole told pc st =
         let parts = told_link w.tree w.scope way (Compare c) e rest told in
-        both g t k (operand_marked _ u _ (comparable_first u _ fine.0))
-        (both g t k (expr_marked d e _ fine.1 parts.0 _ st.1.0)
-        (both g t k (operand_marked _ (typed w e) _ (comparable_second u _ fine.0))
-        (both g t k (compare_marked c u (typed w e) us fine.0)
-        (links_marked d _ rest us fine.2 parts.1 _ st.1.1.1.1))))
+        let h = compares g t k w m c u (typed w e) (compared forms.keeps c u (typed w e) fine.0) in
+        both g t k (h.first us)
+        (both g t k (expr_marked d e _ fine.1 (asks_first _ _ _ whole) parts.0 _ st.1.0)
+        (both g t k (h.second _)
+        (both g t k (h.compared us)
+        (links_marked d _ rest us fine.2 (asks_second _ _ _ whole) parts.1 _ st.1.1.1.1))))
 
     -- arguments of parameters of these types
-    pub args_marked : (d : ℕ) (ts ps : List StaticType) (es : Expressions) (us : List Shape) → ArePassed (without_pointers forms) w ts ps es → ToldArgs way w.tree w.scope es →
-        (pc : ℕ) → Stands t.body pc (exprs_code w d ts es) → Goes us (exprs_code w d ts es) (onto (all_handed w ps es) us)
-    args_marked d [] [] no_expr us fine told pc st = nothing_done g t k _
-    args_marked d (u ∷ ts) (p ∷ ps) (an_expr e es) us fine told pc st =
+    pub args_marked : (d : ℕ) (ts ps : List StaticType) (es : Expressions) (us : List Shape) → ArePassed forms w ts ps es → Asks forms.keeps (are_whole_arguments true w ps es) →
+        ToldArgs way w.tree w.scope es → (pc : ℕ) → Stands t.body pc (exprs_code w d ts es) → Goes us (exprs_code w d ts es) (onto (all_handed w ps es) us)
+    args_marked d [] [] no_expr us fine whole told pc st = nothing_done g t k _
+    args_marked d (u ∷ ts) (p ∷ ps) (an_expr e es) us fine whole told pc st =
         let parts = told_arg w.tree w.scope way e es told in
-        given_either forms.takes w u p e (IsTyped (without_pointers forms) w e) (Goes us (exprs_code w d (u ∷ ts) (an_expr e es)) (onto (all_handed w (p ∷ ps) (an_expr e es)) us))
-        (λ alike same is. both g t k (expr_marked d e us is parts.0 pc st.0)
+        given_whole forms.keeps forms.takes w u p e (IsTyped forms w e) (IsIndexed forms w e)
+        (Goes us (exprs_code w d (u ∷ ts) (an_expr e es)) (onto (all_handed w (p ∷ ps) (an_expr e es)) us)) (asks_first _ _ _ whole)
+        (λ enters is. both g t k (expr_marked d e us is (whole_argument forms.keeps w p e (asks_first _ _ _ whole) enters.other) parts.0 pc st.0)
         (both g t k (subst (λ y. Goes (shape_of (typed w e) ∷ us) (converted_code w (typed w e) u) (y ∷ us))
-        (ap shape_of same ∙ sym (scalar_handed w p e (subst IsScalar same (alike_second _ u alike))))
-        (converted_marked (typed w e) u us alike))
-        (args_marked d ts ps es (handed w p e ∷ us) fine.1 parts.1 _ st.1.1)))
+        (enters.same ∙ sym (worth_handed w p e enters.worth))
+        (converted_marked (typed w e) u us enters.goes enters.few))
+        (args_marked d ts ps es (handed w p e ∷ us) fine.1 (asks_second _ _ _ whole) parts.1 _ st.1.1)))
         (λ y takes h. both g t k (handed_marked g t k slots forms way w m asked y takes d u p e us h)
         (both g t k (subst (λ q. Goes (handed w p e ∷ us) q (handed w p e ∷ us)) (sym (handed_unconverted w y u p e h)) (nothing_done g t k _))
-        (args_marked d ts ps es (handed w p e ∷ us) fine.1 parts.1 _ st.1.1))) fine.0
-    args_marked d [] [] (an_expr e es) us fine told pc st = absurd fine
-    args_marked d [] (p ∷ ps) es us fine told pc st = absurd fine
-    args_marked d (u ∷ ts) [] es us fine told pc st = absurd fine
-    args_marked d (u ∷ ts) (p ∷ ps) no_expr us fine told pc st = absurd fine
+        (args_marked d ts ps es (handed w p e ∷ us) fine.1 (asks_second _ _ _ whole) parts.1 _ st.1.1))) fine.0
+    args_marked d [] [] (an_expr e es) us fine whole told pc st = absurd fine
+    args_marked d [] (p ∷ ps) es us fine whole told pc st = absurd fine
+    args_marked d (u ∷ ts) [] es us fine whole told pc st = absurd fine
+    args_marked d (u ∷ ts) (p ∷ ps) no_expr us fine whole told pc st = absurd fine

@@ -1,5 +1,5 @@
 -- The code that folds a number into a variable has marks.
-use Rattle.std.proofs.Common.{◌≡◌, inl, ℕ, ◌<◌, [], ◌∷◌, false, Some, refl, sym, ap, ◌∙◌, subst, arith}
+use Rattle.std.proofs.Common.{◌≡◌, inl, ℕ, ◌<◌, [], ◌∷◌, false, true, Some, refl, sym, ap, ◌∙◌, subst, arith}
 use Rattle.std.specs.Prelude.{slice_get, length}
 use Rattle.std.proofs.lemmas.List.{length-set}
 use Rattle.std.proofs.lemmas.Option.{same_Some}
@@ -18,9 +18,29 @@ use Rattle.fit_rules.specs.Sound.{settled_number, does_load, does_compute, does_
 use Rattle.marked_code.specs.Marked.{typed_if}
 use Rattle.fit_laws.proofs.Keeping.{get_other, get_set, set_mark}
 use Rattle.sound_code.specs.Ways.{Way}
-use Rattle.sound_code.specs.Named.{Ready}
+use Rattle.lane_kernels.specs.declared.numbers.Op.{Op}
+use Rattle.lane_kernels.specs.declared.numbers.Op.TheVariants.{Greatest, Least, Product, Sum}
+use Rattle.regent_tree.specs.Lookup.{is_bound}
+use Rattle.regent_tree.specs.Syntax.{Name}
+use Rattle.regent_tree.specs.Typing.{width_of_type}
+use Rattle.regent_tree.specs.declared.expression.Arithmetic.TheVariants.{Add, Multiply}
+use Rattle.regent_tree.specs.declared.expression.Comparison.TheVariants.{Greater, Less}
+use Rattle.regent_tree.specs.declared.typing.StaticType.{StaticType}
+use Rattle.machine_terms.specs.Jumps.{fetch}
+use Rattle.code_rules.specs.Assignments.{fold_code}
+use Rattle.code_rules.specs.Pieces.{line_of}
+use Rattle.code_rules.specs.Slots.{bound, slot_named}
+use Rattle.code_laws.specs.Simple.{an_integer, IsInteger}
+use Rattle.code_laws.specs.Standing.{Stands}
+use Rattle.code_laws.specs.Steps.{Forms}
+use Rattle.sound_code.specs.Named.{HasSlots, Ready}
+use Rattle.sound_code.specs.Ways.{shape_in}
+use Rattle.sound_code.proofs.Asked.{Asked}
+use Rattle.sound_code.proofs.Combining.{named_kept}
+use Rattle.sound_code.proofs.Expressions.{stored}
+use Rattle.sound_code.proofs.Placing.{named_at}
 use Rattle.sound_code.proofs.Narrowing.{narrow_itself, narrow_set, narrow_into, same_facts}
-use Rattle.sound_code.proofs.Combining.{KeepsNumber, Marked, both, does, into, behind_kept, keeping, slot_high, storing}
+use Rattle.sound_code.proofs.Combining.{bare_number, KeepsNumber, Marked, both, does, into, behind_kept, keeping, slot_high, storing}
 
 abbrev IsAny : Shape → Type 0
 IsAny anything = Unit {0}
@@ -44,7 +64,7 @@ module _ (g : Program) (t : TaskCode) (k : ℕ) (way : Way) (w : Where) (m : Mar
       (does_load s V (V ∷ []) there (settled_number V (numeric_integer v))))
       (both g t k (does g t k (stacked m (V ∷ V ∷ [])) (computing o v) w.line (V ∷ [])
       (does_compute o v V V [] (numeric_integer v) (numeric_integer v)))
-      (keeping g t k m s V [] w.line kept (numeric_integer v) hi there)))
+      (keeping g t k m s V [] w.line kept (bare_number V (numeric_integer v)) hi there)))
 
   -- the lesser or the greater of both, by a slot of its own
   module _ (low : spare w 0 < length m.slots) where
@@ -72,7 +92,7 @@ module _ (g : Program) (t : TaskCode) (k : ℕ) (way : Way) (w : Where) (m : Mar
         let settled = settled_number V (numeric_integer v) in
         let long : length aside.slots ≡ length m.slots = length-set m.slots u V in
         let taken = both g t k (does g t k (stacked aside []) (instr.Load u) w.line (V ∷ []) (does_load u V [] aside_there settled))
-        (keeping g t k aside s V [] w.line kept (numeric_integer v) (omega (arith, hi, long)) kept_there) in
+        (keeping g t k aside s V [] w.line kept (bare_number V (numeric_integer v)) (omega (arith, hi, long)) kept_there) in
         into g t k (both g t k (wrap_marked a n)
         (both g t k (storing g t k m u V V [] w.line (behind_kept way w.params w.scope.names m u r (omega arith)) (omega (arith, slot_high w.params (length w.scope.names) r.low, ep)) low (λ x y h. h))
         (both g t k (does g t k (stacked aside []) (instr.Load u) w.line (V ∷ []) (does_load u V [] aside_there settled))
@@ -85,3 +105,36 @@ module _ (g : Program) (t : TaskCode) (k : ℕ) (way : Way) (w : Where) (m : Mar
         }))))))
         (narrow_into t.params aside m [] (narrow_set m.slots m.slots u V (narrow_itself m.slots) (inl (r.free u (omega arith) low))) (same_facts _ _ refl))
         (sym long)
+
+-- ---- into a variable
+
+module _ (g : Program) (t : TaskCode) (k slots : ℕ) (have : HasSlots t slots) (forms : Forms) (way : Way) where
+  -- a slot from which something is loaded is there
+  loaded : (pc s line : ℕ) → fetch t.body pc ≡ Some (line_of (instr.Load s) line) → s < slots
+  loaded pc s line e = have pc _ e
+
+  -- a number is folded into a variable of an integer type
+  pub folded : (w : Where) (m : Mark) (x : Name) (o : Op) (s : Shape) (u : StaticType) → (bound w x).static_type ≡ u → Numeric s →
+      IsInteger u → is_bound w.scope.names x ≡ true → Asked g t k slots forms way w m → (pc : ℕ) →
+      Stands t.body pc (fold_code w (slot_named w x) o (width_of_type u)) →
+      Marked g t k (stacked m (s ∷ [])) (fold_code w (slot_named w x) o (width_of_type u)) (stacked m [])
+  folded w m x o s _ e ns (an_integer v) b a pc st = by o pc st
+    where
+      there : slice_get m.slots (slot_named w x) ≡ Some (integer v)
+      there = named_at way w.params m.slots w.scope.names x a.ready.named b ∙ ap (λ y. Some (shape_in way w.params y)) e
+
+      kept : KeepsNumber m (slot_named w x)
+      kept = named_kept way w.params w.scope.names m (bound w x).place a.ready
+
+      by : (o : Op) (pc : ℕ) → Stands t.body pc (fold_code w (slot_named w x) o v) →
+          Marked g t k (stacked m (s ∷ [])) (fold_code w (slot_named w x) o v) (stacked m [])
+      by Sum pc st = let l = loaded _ (slot_named w x) w.line st.1.0 in
+          computed_marked g t k way w m a.ready a.params (slot_named w x) v there (omega (arith, l, a.room)) kept Add s ns
+      by Product pc st = let l = loaded _ (slot_named w x) w.line st.1.0 in
+          computed_marked g t k way w m a.ready a.params (slot_named w x) v there (omega (arith, l, a.room)) kept Multiply s ns
+      by Least pc st = let l = loaded _ (slot_named w x) w.line st.1.1.1.0 in
+          chosen_marked g t k way w m a.ready a.params (slot_named w x) v there (omega (arith, l, a.room)) kept
+          (stored g t k slots have forms way w m a _ (spare w 0) st.1.0) Less s ns
+      by Greatest pc st = let l = loaded _ (slot_named w x) w.line st.1.1.1.0 in
+          chosen_marked g t k way w m a.ready a.params (slot_named w x) v there (omega (arith, l, a.room)) kept
+          (stored g t k slots have forms way w m a _ (spare w 0) st.1.0) Greater s ns

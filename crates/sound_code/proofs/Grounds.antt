@@ -7,7 +7,7 @@ use Rattle.regent_tree.specs.declared.facts.Known.TheVariants.{Within, Apart, Pa
 use Rattle.regent_tree.specs.declared.facts.Term.TheVariants.{Name, Child}
 use Rattle.regent_tree.specs.declared.typing.Bound.{Bound}
 use Rattle.regent_tree.specs.declared.typing.StaticType.{StaticType}
-use Rattle.regent_tree.specs.declared.typing.StaticType.TheVariants.{Region as region_type}
+use Rattle.regent_tree.specs.declared.typing.StaticType.TheVariants.{Partition as partition_type, Region as region_type}
 use Rattle.regent_tree.specs.Scopes.{Scope, knowing, known_of_type, past, scope_of, with_name}
 use Rattle.regent_tree.specs.Syntax.{Tree, TaskTree, Name as Named}
 use Rattle.regent_tree.specs.Typing.{known_of_child, owned}
@@ -15,10 +15,12 @@ use Rattle.regent_tree.proofs.Members.{Has, Has-append_cases}
 use Rattle.task_code.specs.declared.code.TaskCode.{TaskCode}
 use Rattle.check_rules.specs.scopes.Sound.{IsSound, IsSoundTask}
 use Rattle.code_rules.specs.Needs.{needs_of_clauses}
-use Rattle.code_laws.specs.Simple.{IsSimple, simple_integer, simple_truth, simple_index, simple_space}
+use Rattle.code_laws.specs.Simple.{simple_integer, simple_truth, simple_index, simple_space}
 use Rattle.fit_rules.specs.Shapes.{Among, Each}
 use Rattle.fit_rules.specs.Marks.{apart, Fact, in_slot, lies}
 use Rattle.sound_code.specs.Ways.{Way, all_made, by_rules, opening_facts}
+use Rattle.sound_code.proofs.Narrowing.{AtLeast}
+use Rattle.sound_code.proofs.Wholes.{IsWorth, worth_pointer, worth_simple}
 
 -- ---- one fact, and one name
 
@@ -55,7 +57,7 @@ abbrev pub Ground : TaskCode → Way → Tree → ℕ → Scope → Type 0
 Ground t all_made tree params s = Unit {0}
 Ground t (by_rules task) tree params s = Kept t task tree params s
 
--- facts of a mark beside those that clauses tell
+-- facts of a mark beside those of the opening one
 abbrev pub HasFacts : Way → Tree → List Fact → Type 0
 HasFacts all_made tree ks = Unit {0}
 HasFacts (by_rules task) tree ks = (k : Fact) → Among (opening_facts (by_rules task) tree task) k → Among ks k
@@ -64,25 +66,32 @@ pub facts_more : (way : Way) (tree : Tree) (ks : List Fact) (k : Fact) → HasFa
 facts_more all_made tree ks k h = tt
 facts_more (by_rules task) tree ks k h = λ l a. inr (h l a)
 
+pub facts_among : (way : Way) (tree : Tree) (ks ls : List Fact) → AtLeast ks ls → HasFacts way tree ks → HasFacts way tree ls
+facts_among all_made tree ks ls more h = tt
+facts_among (by_rules task) tree ks ls more h = λ l a. more l (h l a)
+
 -- ---- the places behind it
 
-simple_placed : (params place i : ℕ) (u : StaticType) → IsSimple u → OfType params place (owned i u)
-simple_placed params place i _ (simple_integer w) = tt
-simple_placed params place i _ simple_truth = tt
-simple_placed params place i _ (simple_index k) = tt
-simple_placed params place i _ (simple_space k) = tt
+worth_placed : (params place i : ℕ) (u : StaticType) → IsWorth u → OfType params place (owned i u)
+worth_placed params place i _ (worth_simple _ (simple_integer w)) = tt
+worth_placed params place i _ (worth_simple _ simple_truth) = tt
+worth_placed params place i _ (worth_simple _ (simple_index k)) = tt
+worth_placed params place i _ (worth_simple _ (simple_space k)) = tt
+worth_placed params place i _ (worth_pointer k sp args rs few) = tt
 
-simple_itself : (params place : ℕ) (u : StaticType) → IsSimple u → OfType params place u
-simple_itself params place _ (simple_integer w) = tt
-simple_itself params place _ simple_truth = tt
-simple_itself params place _ (simple_index k) = tt
-simple_itself params place _ (simple_space k) = tt
+worth_itself : (params place : ℕ) (u : StaticType) → IsWorth u → OfType params place u
+worth_itself params place _ (worth_simple _ (simple_integer w)) = tt
+worth_itself params place _ (worth_simple _ simple_truth) = tt
+worth_itself params place _ (worth_simple _ (simple_index k)) = tt
+worth_itself params place _ (worth_simple _ (simple_space k)) = tt
+worth_itself params place _ (worth_pointer k sp args rs few) = tt
 
-simple_tells : (i : ℕ) (u : StaticType) → IsSimple u → (known_of_child i u ≡ []) × (known_of_type (owned i u) ≡ []) × (known_of_type u ≡ [])
-simple_tells i _ (simple_integer w) = (refl, refl, refl)
-simple_tells i _ simple_truth = (refl, refl, refl)
-simple_tells i _ (simple_index k) = (refl, refl, refl)
-simple_tells i _ (simple_space k) = (refl, refl, refl)
+worth_tells : (i : ℕ) (u : StaticType) → IsWorth u → (known_of_child i u ≡ []) × (known_of_type (owned i u) ≡ []) × (known_of_type u ≡ [])
+worth_tells i _ (worth_simple _ (simple_integer w)) = (refl, refl, refl)
+worth_tells i _ (worth_simple _ simple_truth) = (refl, refl, refl)
+worth_tells i _ (worth_simple _ (simple_index k)) = (refl, refl, refl)
+worth_tells i _ (worth_simple _ (simple_space k)) = (refl, refl, refl)
+worth_tells i _ (worth_pointer k sp args rs few) = (refl, refl, refl)
 
 module _ (t : TaskCode) (task : TaskTree) (tree : Tree) (params : ℕ) where
   abbrev ks : List Fact
@@ -133,38 +142,38 @@ module _ (t : TaskCode) (task : TaskTree) (tree : Tree) (params : ℕ) where
 
 module _ (t : TaskCode) (tree : Tree) (params : ℕ) where
   -- a loop's variable
-  pub ground_looping : (way : Way) (s : Scope) (n : Named) (u : StaticType) → IsSimple u → Ground t way tree params s →
+  pub ground_looping : (way : Way) (s : Scope) (n : Named) (u : StaticType) → IsWorth u → Ground t way tree params s →
       Ground t way tree params (with_name s n u true)
   ground_looping all_made s n u h g = tt
-  ground_looping (by_rules task) s n u h g = kept_looping t task tree params s n u g (simple_itself params _ u h)
+  ground_looping (by_rules task) s n u h g = kept_looping t task tree params s n u g (worth_itself params _ u h)
 
   pub ground_past : (way : Way) (s inner : Scope) → Ground t way tree params s → Ground t way tree params inner →
       Ground t way tree params (past s inner)
   ground_past all_made s inner g h = tt
   ground_past (by_rules task) s inner g h = kept_past t task tree params s inner g h
 
-  -- a variable of a simple type, as its value's type is or as it is written
-  pub ground_plain : (way : Way) (s : Scope) (n : Named) (u : StaticType) → IsSimple u → Ground t way tree params s →
+  -- a variable of such a type, as its value's type is or as it is written
+  pub ground_plain : (way : Way) (s : Scope) (n : Named) (u : StaticType) → IsWorth u → Ground t way tree params s →
       Ground t way tree params (knowing (with_name s n (owned s.next u) false) (known_of_child s.next u ++ known_of_type (owned s.next u)))
   ground_plain all_made s n u h g = tt
   ground_plain (by_rules task) s n u h g =
-      let none = simple_tells s.next u h in
-      kept_named t task tree params s n (owned s.next u) false _ g (simple_placed params _ s.next u h)
+      let none = worth_tells s.next u h in
+      kept_named t task tree params s n (owned s.next u) false _ g (worth_placed params _ s.next u h)
       (none_told t task tree params _ (ap (λ l. l ++ known_of_type (owned s.next u)) none.0 ∙ none.1))
 
-  pub ground_said : (way : Way) (s : Scope) (n : Named) (from u : StaticType) → IsSimple from → IsSimple u → Ground t way tree params s →
+  pub ground_said : (way : Way) (s : Scope) (n : Named) (from u : StaticType) → known_of_child s.next from ≡ [] → IsWorth u → Ground t way tree params s →
       Ground t way tree params (knowing (with_name s n u false) (known_of_child s.next from ++ known_of_type u))
   ground_said all_made s n from u f h g = tt
   ground_said (by_rules task) s n from u f h g =
-      kept_named t task tree params s n u false _ g (simple_itself params _ u h)
-      (none_told t task tree params _ (ap (λ l. l ++ known_of_type u) (simple_tells s.next from f).0 ∙ (simple_tells s.next u h).2))
+      kept_named t task tree params s n u false _ g (worth_itself params _ u h)
+      (none_told t task tree params _ (ap (λ l. l ++ known_of_type u) f ∙ (worth_tells s.next u h).2))
 
-  pub ground_declared : (way : Way) (s : Scope) (n : Named) (u : StaticType) → IsSimple u → Ground t way tree params s →
+  pub ground_declared : (way : Way) (s : Scope) (n : Named) (u : StaticType) → IsWorth u → Ground t way tree params s →
       Ground t way tree params (knowing (with_name s n u false) (known_of_type u))
   ground_declared all_made s n u h g = tt
   ground_declared (by_rules task) s n u h g =
-      kept_named t task tree params s n u false _ g (simple_itself params _ u h)
-      (none_told t task tree params _ (simple_tells s.next u h).2)
+      kept_named t task tree params s n u false _ g (worth_itself params _ u h)
+      (none_told t task tree params _ (worth_tells s.next u h).2)
 
   -- a root
   pub ground_root : (way : Way) (s : Scope) (n : Named) (k : _) (sp : ℕ) (args : _) → Ground t way tree params s →
@@ -174,3 +183,11 @@ module _ (t : TaskCode) (tree : Tree) (params : ℕ) where
       let low = g.next in
       kept_named t task tree params s n (region_type k sp args (Name s.next)) false _ g (λ l. absurd (omega (arith, l, low)))
       (λ y i. ⊎_elim (λ e. subst (IsTold params _) e (tells_made s.next low)) (λ b. absurd b) i)
+
+  -- a partition
+  pub ground_cut : (way : Way) (s : Scope) (n : Named) (d : Bool) (r p : ℕ) → Ground t way tree params s →
+      Ground t way tree params (knowing (with_name s n (partition_type d r p) false) (PartOf p r d ∷ []))
+  ground_cut all_made s n d r p g = tt
+  ground_cut (by_rules task) s n d r p g =
+      kept_named t task tree params s n (partition_type d r p) false _ g tt
+      (λ y i. ⊎_elim (λ e. subst (IsTold params _) e (tells_part p r d)) (λ b. absurd b) i)

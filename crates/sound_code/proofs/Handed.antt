@@ -18,20 +18,21 @@ use Rattle.code_rules.specs.Expressions.{count}
 use Rattle.code_rules.specs.Instructions.{converted_code}
 use Rattle.code_rules.specs.Pieces.{empty, op}
 use Rattle.code_rules.specs.Slots.{Where, bound, typed}
-use Rattle.code_laws.specs.Simple.{AreRegions, IsRegion, IsScalar, a_region_type, scalar_integer, scalar_truth, two_regions}
-use Rattle.code_laws.specs.Steps.{Forms, Taking, without_pointers}
+use Rattle.code_laws.specs.Simple.{AreRegions, IsRegion, a_region_type, simple_index, simple_integer, simple_space, simple_truth, two_regions}
+use Rattle.code_laws.specs.Steps.{Forms, Taking}
 use Rattle.code_laws.specs.Arguments.{IsHanded, name_at, name_of}
-use Rattle.code_laws.specs.Typed.{ArePassed, IsTyped}
-use Rattle.code_laws.proofs.Arguments.{IsNoRegion, alike_other, first_region, given_either, handed_name, named_typed, region_other}
+use Rattle.code_laws.specs.Typed.{ArePassed, IsIndexed, IsTyped}
+use Rattle.code_laws.proofs.Arguments.{IsNoRegion, first_region, handed_name, named_typed, region_other}
 use Rattle.fit_rules.specs.Shapes.{argument, Are, are_more, Each, Is, is_number, is_region, IsRegion as IsRegionValue, IsWhole, Origin, own_as, region, Shape, unknown, World}
 use Rattle.fit_rules.specs.Marks.{Mark, stacked}
 use Rattle.fit_rules.specs.Fits.{Program}
-use Rattle.fit_rules.specs.Sound.{does_load, Settled, settled_number, settled_region}
+use Rattle.fit_rules.specs.Sound.{does_load, Settled, settled_region}
 use Rattle.fit_laws.proofs.Lookup.{any_region}
 use Rattle.marked_code.proofs.Placed.{below}
 use Rattle.sound_code.specs.Named.{slot_at}
 use Rattle.sound_code.specs.Ways.{by_rules, shape_in, shape_of}
-use Rattle.sound_code.proofs.Calling.{alike_second, scalar_numeric}
+use Rattle.sound_code.specs.WholeTasks.{are_whole_arguments}
+use Rattle.sound_code.proofs.Wholes.{Asks, asks_first, asks_second, given_whole, IsWorth, worth_pointer, worth_settled, worth_simple}
 use Rattle.sound_code.proofs.Combining.{does, Marked}
 use Rattle.sound_code.proofs.Interpreting.{high_region, low_region, made_at, meant, region_at, taken_at}
 use Rattle.regent_tree.specs.declared.facts.Term.{Term}
@@ -59,9 +60,12 @@ abbrev pub all_handed : Where → List StaticType → Expressions → List Shape
 all_handed w (p ∷ ps) (an_expr e es) = handed w p e ∷ all_handed w ps es
 all_handed w ps es = []
 
-pub scalar_handed : (w : Where) (p : StaticType) (e : Expression) → IsScalar p → handed w p e ≡ shape_of p
-scalar_handed w _ e (scalar_integer v) = refl
-scalar_handed w _ e scalar_truth = refl
+pub worth_handed : (w : Where) (p : StaticType) (e : Expression) → IsWorth p → handed w p e ≡ shape_of p
+worth_handed w _ e (worth_simple _ (simple_integer v)) = refl
+worth_handed w _ e (worth_simple _ simple_truth) = refl
+worth_handed w _ e (worth_simple _ (simple_index k)) = refl
+worth_handed w _ e (worth_simple _ (simple_space k)) = refl
+worth_handed w _ e (worth_pointer k sp args rs few) = refl
 
 pub region_handed : (w : Where) (n : Name) (u p : StaticType) → AreRegions u p →
     handed w p (access_expr n no_step) ≡ given_in w.params (bound w n).static_type
@@ -84,24 +88,24 @@ given_settled params _ (a_region_type c sp args (term.Name i)) = settled_region 
 given_settled params _ (a_region_type c sp args (term.Child p q)) = settled_region (Some sp) _
 
 module _ (forms : Forms) (w : Where) where
-  pub all_settled : (ts ps : List StaticType) (es : Expressions) → ArePassed (without_pointers forms) w ts ps es → Each Settled (all_handed w ps es)
-  all_settled [] [] no_expr h = tt
-  all_settled (t ∷ ts) (p ∷ ps) (an_expr e es) h = (
-    given_either forms.takes w t p e (IsTyped (without_pointers forms) w e) (Settled (handed w p e))
-        (λ alike same is. subst Settled (sym (scalar_handed w p e (subst IsScalar same (alike_second _ t alike))))
-        (settled_number _ (scalar_numeric p (subst IsScalar same (alike_second _ t alike)))))
+  pub all_settled : (ts ps : List StaticType) (es : Expressions) → ArePassed forms w ts ps es → Asks forms.keeps (are_whole_arguments true w ps es) →
+      Each Settled (all_handed w ps es)
+  all_settled [] [] no_expr h asks = tt
+  all_settled (t ∷ ts) (p ∷ ps) (an_expr e es) h asks = (
+    given_whole forms.keeps forms.takes w t p e (IsTyped forms w e) (IsIndexed forms w e) (Settled (handed w p e)) (asks_first _ _ _ asks)
+        (λ enters is. subst Settled (sym (worth_handed w p e enters.worth)) (worth_settled p enters.worth))
         (λ y takes q.
         let n = handed_name y w t p e q in
         subst (λ a. Settled (handed w p a)) (sym n.1)
         (subst Settled (sym (region_handed w n.0 _ p n.4)) (given_settled w.params _ (first_region _ p n.4)))) h.0,
-    all_settled ts ps es h.1,
+    all_settled ts ps es h.1 (asks_second _ _ _ asks),
   )
-  all_settled [] [] (an_expr e es) h = absurd h
-  all_settled [] (p ∷ ps) es h = absurd h
-  all_settled (t ∷ ts) [] es h = absurd h
-  all_settled (t ∷ ts) (p ∷ ps) no_expr h = absurd h
+  all_settled [] [] (an_expr e es) h asks = absurd h
+  all_settled [] (p ∷ ps) es h asks = absurd h
+  all_settled (t ∷ ts) [] es h asks = absurd h
+  all_settled (t ∷ ts) (p ∷ ps) no_expr h asks = absurd h
 
-  pub all_long : (ts ps : List StaticType) (es : Expressions) → ArePassed (without_pointers forms) w ts ps es → length (all_handed w ps es) ≡ count es
+  pub all_long : (ts ps : List StaticType) (es : Expressions) → ArePassed forms w ts ps es → length (all_handed w ps es) ≡ count es
   all_long [] [] no_expr h = refl
   all_long (t ∷ ts) (p ∷ ps) (an_expr e es) h = ap suc (all_long ts ps es h.1)
   all_long [] [] (an_expr e es) h = absurd h
@@ -109,13 +113,13 @@ module _ (forms : Forms) (w : Where) where
   all_long (t ∷ ts) [] es h = absurd h
   all_long (t ∷ ts) (p ∷ ps) no_expr h = absurd h
 
-  pub scalars_handed : (ps : List StaticType) (es : Expressions) → Each IsScalar ps → length ps ≡ count es → all_handed w ps es ≡ map shape_of ps
-  scalars_handed [] no_expr h l = refl
-  scalars_handed (p ∷ ps) (an_expr e es) h l =
-      ap (λ s. s ∷ all_handed w ps es) (scalar_handed w p e h.0)
-      ∙ ap (λ ss. shape_of p ∷ ss) (scalars_handed ps es h.1 (omega (arith, l)))
-  scalars_handed [] (an_expr e es) h l = absurd (omega (arith, l))
-  scalars_handed (p ∷ ps) no_expr h l = absurd (omega (arith, l))
+  pub worths_handed : (ps : List StaticType) (es : Expressions) → Each IsWorth ps → length ps ≡ count es → all_handed w ps es ≡ map shape_of ps
+  worths_handed [] no_expr h l = refl
+  worths_handed (p ∷ ps) (an_expr e es) h l =
+      ap (λ s. s ∷ all_handed w ps es) (worth_handed w p e h.0)
+      ∙ ap (λ ss. shape_of p ∷ ss) (worths_handed ps es h.1 (omega (arith, l)))
+  worths_handed [] (an_expr e es) h l = absurd (omega (arith, l))
+  worths_handed (p ∷ ps) no_expr h l = absurd (omega (arith, l))
 
 -- ---- a region is loaded
 
@@ -194,12 +198,13 @@ pub record IsArgument (x : World) (ws : List Value) (k : ℕ) (s : Shape) : Type
   pub of : Is x s it
 
 module _ (forms : Forms) (w : Where) (x : World) where
-  pub argument_at : (ts ps : List StaticType) (es : Expressions) (ws : List Value) (k : ℕ) (n : Name) → ArePassed (without_pointers forms) w ts ps es →
-      Are x (all_handed w ps es) ws → name_at es k ≡ Some n → IsRegion (bound w n).static_type →
+  pub argument_at : (ts ps : List StaticType) (es : Expressions) (ws : List Value) (k : ℕ) (n : Name) → ArePassed forms w ts ps es →
+      Asks forms.keeps (are_whole_arguments true w ps es) → Are x (all_handed w ps es) ws → name_at es k ≡ Some n → IsRegion (bound w n).static_type →
       IsArgument x ws k (given_in w.params (bound w n).static_type)
-  argument_at (t ∷ ts) (p ∷ ps) (an_expr e es) _ zero n h (are_more _ v _ vs i a) en r =
-      given_either forms.takes w t p e (IsTyped (without_pointers forms) w e) (IsArgument x (v ∷ vs) 0 (given_in w.params (bound w n).static_type))
-      (λ alike eq is. absurd (region_other _ r (subst IsNoRegion (named_typed w e n en) (alike_other _ t alike))))
+  argument_at (t ∷ ts) (p ∷ ps) (an_expr e es) _ zero n h asks (are_more _ v _ vs i a) en r =
+      given_whole forms.keeps forms.takes w t p e (IsTyped forms w e) (IsIndexed forms w e) (IsArgument x (v ∷ vs) 0 (given_in w.params (bound w n).static_type))
+      (asks_first _ _ _ asks)
+      (λ enters is. absurd (region_other _ r (subst IsNoRegion (named_typed w e n en) enters.other)))
       (λ y takes q.
       let b = handed_name y w t p e q in
       let one : b.0 ≡ n = same_Some b.0 n (ap name_of (sym b.1) ∙ en) in
@@ -208,9 +213,9 @@ module _ (forms : Forms) (w : Where) (x : World) where
         at = refl;
         of = subst (λ s. Is x s v) (ap (handed w p) b.1 ∙ region_handed w b.0 _ p b.4 ∙ ap (λ a. given_in w.params (bound w a).static_type) one) i;
       }) h.0
-  argument_at (t ∷ ts) (p ∷ ps) (an_expr e es) _ (suc k) n h (are_more _ v _ vs i a) en r =
-      let more = argument_at ts ps es vs k n h.1 a en r in record { it = more.it; at = more.at; of = more.of }
-  argument_at ts ps no_expr ws k n h a en r = absurd (none-some n en)
-  argument_at [] [] (an_expr e es) ws k n h a en r = absurd h
-  argument_at [] (p ∷ ps) (an_expr e es) ws k n h a en r = absurd h
-  argument_at (t ∷ ts) [] (an_expr e es) ws k n h a en r = absurd h
+  argument_at (t ∷ ts) (p ∷ ps) (an_expr e es) _ (suc k) n h asks (are_more _ v _ vs i a) en r =
+      let more = argument_at ts ps es vs k n h.1 (asks_second _ _ _ asks) a en r in record { it = more.it; at = more.at; of = more.of }
+  argument_at ts ps no_expr ws k n h asks a en r = absurd (none-some n en)
+  argument_at [] [] (an_expr e es) ws k n h asks a en r = absurd h
+  argument_at [] (p ∷ ps) (an_expr e es) ws k n h asks a en r = absurd h
+  argument_at (t ∷ ts) [] (an_expr e es) ws k n h asks a en r = absurd h

@@ -1,6 +1,6 @@
 -- Calls, also those that hand regions over: what is handed is what the called task needs, and the frame which the call
 -- opens suits the mark in which the task's body begins.
-use Rattle.std.proofs.Common.{◌≡◌, inl, inr, ℕ, suc, ◌+◌, ◌<◌, ◌-◌, pos, List, [], ◌∷◌, ◌++◌, map, false, true, Option, None, Some, refl, sym, ap, ◌∙◌, subst, arith, cond}
+use Rattle.std.proofs.Common.{◌≡◌, inl, inr, ℕ, suc, ◌+◌, ◌<◌, ◌-◌, pos, List, [], ◌∷◌, ◌++◌, map, Bool, true, Option, None, Some, refl, sym, ap, ◌∙◌, subst, arith, cond}
 use Rattle.std.specs.Prelude.{length, replicate, slice_get, ◌==◌, ◌&&◌}
 use Rattle.std.specs.List.{list_any}
 use Rattle.std.proofs.lemmas.Bool.{and_parts, eqb-true, or_cases}
@@ -32,14 +32,14 @@ use Rattle.code_rules.specs.Expressions.{count, expr_code}
 use Rattle.code_rules.specs.Instructions.{one, place_of_task}
 use Rattle.code_rules.specs.Programs.{task_code}
 use Rattle.code_rules.specs.Slots.{Where, bound, slot_named}
-use Rattle.code_laws.specs.Simple.{AreRegions, IsRegion, IsScalar, a_region_type, scalar_integer, scalar_truth, term_in, two_regions}
-use Rattle.code_laws.specs.Steps.{Forms, Taking, without_pointers}
+use Rattle.code_laws.specs.Simple.{AreRegions, IsRegion, a_region_type, term_in, two_regions}
+use Rattle.code_laws.specs.Steps.{Forms, Taking}
 use Rattle.code_laws.specs.Taking.{MayDo, allows, is_need, is_part, known_of_pairs, pairs_in}
 use Rattle.code_laws.specs.Arguments.{AreMet, IsHanded, IsMet, name_at}
-use Rattle.code_laws.specs.Typed.{ArePassed, IsCallable, IsTyped}
-use Rattle.code_laws.proofs.Arguments.{given_either, handed_name}
+use Rattle.code_laws.specs.Typed.{ArePassed, IsCallable, IsIndexed, IsTyped}
+use Rattle.code_laws.proofs.Arguments.{handed_name}
 use Rattle.code_laws.proofs.Calling.{code_there}
-use Rattle.fit_rules.specs.Shapes.{Among, Are, are_more, are_none, awaited, Each, Is, is_number, is_region, IsRegion as IsRegionValue, region, Shape, World, unknown, argument, own_as}
+use Rattle.fit_rules.specs.Shapes.{Among, Are, are_more, are_none, awaited, Each, Is, is_region, IsRegion as IsRegionValue, region, Shape, World, unknown, argument, own_as}
 use Rattle.fit_rules.specs.Marks.{Mark, stacked, Suits}
 use Rattle.fit_rules.specs.Fits.{count_at, Declares, declares_it, made_it, Program}
 use Rattle.fit_rules.specs.Ends.{called, IsNeeded}
@@ -49,13 +49,15 @@ use Rattle.fit_laws.proofs.Within.{covered_needs_are_within}
 use Rattle.marked_code.proofs.Placed.{below}
 use Rattle.marked_code.specs.Marked.{leads_calling, typed_op}
 use Rattle.sound_code.specs.Ways.{by_rules, shape_in, shape_of, Way, opening_facts}
+use Rattle.sound_code.specs.WholeTasks.{are_whole_arguments}
+use Rattle.sound_code.proofs.Wholes.{Asks, asks_first, asks_second, given_whole, IsWorth, met_whole, worth_named}
 use Rattle.sound_code.proofs.Asked.{Asked, Hands, hands_none, hands_taken, Known}
-use Rattle.sound_code.proofs.Calling.{alike_second, nothing_needed, onto, opening_suits, opens, passed_many, passed_scalars, some_body, takes_settled, types_many}
+use Rattle.sound_code.proofs.Calling.{nothing_needed, onto, opening_suits, opens, passed_many, passed_worth, some_body, takes_settled, types_many, worth_is}
 use Rattle.sound_code.proofs.Combining.{both, Marked, nothing_done}
 use Rattle.sound_code.proofs.Elements.{field_there}
 use Rattle.sound_code.proofs.Parameters.{AreAt, IsLow, IsOwnAt, params_low, params_own}
 use Rattle.sound_code.proofs.Placing.{named_at}
-use Rattle.sound_code.proofs.Handed.{IsAny, IsArgument, all_handed, all_long, all_settled, any_given, argument_at, given_in, handed, is_given_region, region_handed, region_loaded, scalar_handed, scalars_handed}
+use Rattle.sound_code.proofs.Handed.{IsAny, IsArgument, all_handed, all_long, all_settled, any_given, argument_at, given_in, handed, is_given_region, region_handed, region_loaded, worth_handed, worths_handed}
 use Rattle.sound_code.proofs.Grounds.{Ground, HasFacts, Kept}
 use Rattle.sound_code.proofs.Interpreting.{not_below}
 use Rattle.sound_code.proofs.Told.{ToldCall}
@@ -65,11 +67,11 @@ use Rattle.sound_code.proofs.Constraining.{facts_told}
 
 -- ---- what the called task needs
 
-met_at : (o : Option Taking) (w : Where) (es : Expressions) (ns : List NeedCode) (n : NeedCode) → Among ns n → AreMet false o w es ns →
-    IsMet o w n (name_at es n.param)
-met_at o w es [] n h a = absurd h
-met_at o w es (m ∷ ns) n (inl e) a = subst (λ (d : NeedCode). IsMet o w d (name_at es d.param)) e a.0
-met_at o w es (m ∷ ns) n (inr h) a = met_at o w es ns n h a.1
+met_at : (b : Bool) (o : Option Taking) (w : Where) (ps : List StaticType) (es : Expressions) (ns : List NeedCode) (n : NeedCode) → Asks b (are_whole_arguments true w ps es) → Among ns n →
+    AreMet b o w es ns → IsMet o w n (name_at es n.param)
+met_at b o w ps es [] n asks h a = absurd h
+met_at b o w ps es (m ∷ ns) n asks (inl e) a = subst (λ (d : NeedCode). IsMet o w d (name_at es d.param)) e (met_whole b o w ps es m asks a.0)
+met_at b o w ps es (m ∷ ns) n asks (inr h) a = met_at b o w ps es ns n asks h a.1
 
 -- it is of a region that has a name
 pub record IsNeedOf (y : Taking) (w : Where) (need : NeedCode) (o : Option Name) : Type 0 where
@@ -167,19 +169,17 @@ module _ (forms : Forms) (w : Where) (u : TaskTree) (n : ℕ) (x : World) (all :
       (is_region (Some sp) (argument k) a.it (region_called sp k a.it a.of_space (ap region_in (at ∙ ap Some a.is)))))
   region_taken _ _ v k (two_regions c d sp args brgs r (term.Child q e)) low own at a = absurd low
 
-  scalar_taken : (p : StaticType) (v : Value) → IsScalar p → Is x (shape_of p) v → Is (called x all) (shape_in (by_rules u) n p) v
-  scalar_taken _ _ (scalar_integer a) (is_number _ z h) = is_number _ z h
-  scalar_taken _ _ scalar_truth (is_number _ z h) = is_number _ z h
+  worth_taken : (p : StaticType) (v : Value) → IsWorth p → Is x (shape_of p) v → Is (called x all) (shape_in (by_rules u) n p) v
+  worth_taken p v h i = subst (λ s. Is (called x all) s v) (sym (worth_named (by_rules u) n p h)) (worth_is x (called x all) p v h i)
 
   are_taken : (k : ℕ) (ts ps : List StaticType) (es : Expressions) (ws : List Value) → Each (IsLow n) ps → AreAt IsOwnAt k ps →
-      ((i : ℕ) (v : Value) → slice_get ws i ≡ Some v → slice_get all (k + i) ≡ Some v) → ArePassed (without_pointers forms) w ts ps es →
-      Are x (all_handed w ps es) ws → Are (called x all) (map (shape_in (by_rules u) n) ps) ws
-  are_taken k [] [] no_expr _ l o at h are_none = are_none
-  are_taken k (t ∷ ts) (p ∷ ps) (an_expr e es) _ l o at h (are_more _ v _ vs i a) = are_more _ v _ vs
-      (given_either forms.takes w t p e (IsTyped (without_pointers forms) w e) (Is (called x all) (shape_in (by_rules u) n p) v)
-      (λ alike eq is.
-      let s = subst IsScalar eq (alike_second _ t alike) in
-      scalar_taken p v s (subst (λ b. Is x b v) (scalar_handed w p e s) i))
+      ((i : ℕ) (v : Value) → slice_get ws i ≡ Some v → slice_get all (k + i) ≡ Some v) → ArePassed forms w ts ps es →
+      Asks forms.keeps (are_whole_arguments true w ps es) → Are x (all_handed w ps es) ws → Are (called x all) (map (shape_in (by_rules u) n) ps) ws
+  are_taken k [] [] no_expr _ l o at h asks are_none = are_none
+  are_taken k (t ∷ ts) (p ∷ ps) (an_expr e es) _ l o at h asks (are_more _ v _ vs i a) = are_more _ v _ vs
+      (given_whole forms.keeps forms.takes w t p e (IsTyped forms w e) (IsIndexed forms w e) (Is (called x all) (shape_in (by_rules u) n p) v)
+      (asks_first _ _ _ asks)
+      (λ enters is. worth_taken p v enters.worth (subst (λ b. Is x b v) (worth_handed w p e enters.worth) i))
       (λ y takes q.
       let b = handed_name y w t p e q in
       let here : k + 0 ≡ k = omega arith in
@@ -187,11 +187,11 @@ module _ (forms : Forms) (w : Where) (u : TaskTree) (n : ℕ) (x : World) (all :
       (any_given x w.params (bound w b.0).static_type p v b.4
       (subst (λ s. Is x s v) (ap (handed w p) b.1 ∙ region_handed w b.0 _ p b.4) i))) h.0)
       (are_taken (suc k) ts ps es vs l.1 o.1 (λ j z e.
-      let next : k + suc j ≡ suc k + j = omega arith in subst (λ c. slice_get all c ≡ Some z) next (at (suc j) z e)) h.1 a)
-  are_taken k [] [] (an_expr e es) ws l o at h a = absurd h
-  are_taken k [] (p ∷ ps) es ws l o at h a = absurd h
-  are_taken k (t ∷ ts) [] es ws l o at h a = absurd h
-  are_taken k (t ∷ ts) (p ∷ ps) no_expr ws l o at h a = absurd h
+      let next : k + suc j ≡ suc k + j = omega arith in subst (λ c. slice_get all c ≡ Some z) next (at (suc j) z e)) h.1 (asks_second _ _ _ asks) a)
+  are_taken k [] [] (an_expr e es) ws l o at h asks a = absurd h
+  are_taken k [] (p ∷ ps) es ws l o at h asks a = absurd h
+  are_taken k (t ∷ ts) [] es ws l o at h asks a = absurd h
+  are_taken k (t ∷ ts) (p ∷ ps) no_expr ws l o at h asks a = absurd h
 
 -- ---- calls
 
@@ -211,8 +211,9 @@ module _ (g : Program) (t : TaskCode) (k slots : ℕ) (forms : Forms) (way : Way
           (named_at way w.params m.slots w.scope.names q.0 asked.ready.named q.2 ∙ ap (λ v. Some (shape_in v w.params b.static_type)) by)))
           (nothing_done g t k _))
 
-  module _ (name : Name) (ts : List StaticType) (es : Expressions) (us : List Shape) (is : IsCallable (without_pointers forms) w name es)
-      (passed : ArePassed (without_pointers forms) w ts (param_types w.tree (task_named w.tree name)) es) (told : ToldCall way w.tree w.scope name es) where
+  module _ (name : Name) (ts : List StaticType) (es : Expressions) (us : List Shape) (is : IsCallable forms w name es)
+      (passed : ArePassed forms w ts (param_types w.tree (task_named w.tree name)) es) (whole : Asks forms.keeps (are_whole_arguments true w (param_types w.tree (task_named w.tree name)) es))
+      (told : ToldCall way w.tree w.scope name es) where
     abbrev callee : TaskTree
     callee = task_named w.tree name
 
@@ -229,12 +230,12 @@ module _ (g : Program) (t : TaskCode) (k slots : ℕ) (forms : Forms) (way : Way
     before = stacked m (onto shapes us)
 
     need_at : (y : Taking) → forms.takes ≡ Some y → (n : NeedCode) → Among (task_code w.tree callee).needs n → IsNeedOf y w n (name_at es n.param)
-    need_at y takes n h = need_of y w n (name_at es n.param) (met_at (Some y) w es (task_code w.tree callee).needs n h
-        (subst (λ o. AreMet false o w es (task_code w.tree callee).needs) takes is.1))
+    need_at y takes n h = need_of y w n (name_at es n.param) (met_at forms.keeps (Some y) w types es (task_code w.tree callee).needs n whole h
+        (subst (λ o. AreMet forms.keeps o w es (task_code w.tree callee).needs) takes is.1))
 
     need_place : (y : Taking) (x : World) (ws : List Value) → Are x shapes ws → (n : NeedCode) (q : IsNeedOf y w n (name_at es n.param)) →
         IsArgument x ws n.param (given_in w.params (bound w q.name).static_type)
-    need_place y x ws a n q = argument_at forms w x ts types es ws n.param q.name passed a q.stands q.of_region
+    need_place y x ws a n q = argument_at forms w x ts types es ws n.param q.name passed whole a q.stands q.of_region
 
     taken_opens : (task : TaskTree) (y : Taking) → way ≡ by_rules task → forms.takes ≡ Some y → y.params ≡ t.params → y.needs ≡ t.needs →
         y.within ≡ pairs_in (scope_of w.tree task).known → Opens g t before place (task_code w.tree callee) shapes
@@ -247,8 +248,8 @@ module _ (g : Program) (t : TaskCode) (k slots : ℕ) (forms : Forms) (way : Way
               (sym (known.begins place callee is.0))
               (opening_suits (by_rules callee) w.tree callee x ws
               (are_taken forms w callee (length callee.params) x ws 0 ts types es ws (params_low w.tree callee) (params_own w.tree callee) (λ i v e.
-              let from : 0 + i ≡ i = omega arith in subst (λ j. slice_get ws j ≡ Some v) (sym from) e) passed a)
-              (facts_told task t w kept before facts asked.params x vs st ws knows s forms y takes name ts es is passed a
+              let from : 0 + i ≡ i = omega arith in subst (λ j. slice_get ws j ≡ Some v) (sym from) e) passed whole a)
+              (facts_told task t w kept before facts asked.params x vs st ws knows s forms y takes name ts es is passed whole a
               (subst (λ v. ToldCall v w.tree w.scope name es) by told))),
           each_needed (task_code w.tree callee).needs (λ n h.
               let q = need_at y takes n h in
@@ -267,9 +268,9 @@ module _ (g : Program) (t : TaskCode) (k slots : ℕ) (forms : Forms) (way : Way
       where
         of : Hands forms t way w.tree → Opens g t before place (task_code w.tree callee) shapes
         of (hands_none none) =
-            let scalars = passed_scalars forms none w ts types es passed in
-            subst (Opens g t before place (task_code w.tree callee)) (sym (scalars_handed forms w types es scalars (passed_many forms w ts types es passed)))
-            (opens g t k way w asked.known before place callee is.0 (nothing_needed forms.takes none w es (task_code w.tree callee).needs is.1) scalars)
+            let worths = passed_worth forms none w ts types es passed whole in
+            subst (Opens g t before place (task_code w.tree callee)) (sym (worths_handed forms w types es worths (passed_many forms w ts types es passed)))
+            (opens g t k way w asked.known before place callee is.0 (nothing_needed forms.keeps forms.takes none w types es (task_code w.tree callee).needs whole is.1) worths)
         of (hands_taken task y by e1 e2 e3 e4) = taken_opens task y by e1 e2 e3 e4
 
     -- a call with its arguments on the stack
@@ -280,6 +281,6 @@ module _ (g : Program) (t : TaskCode) (k slots : ℕ) (forms : Forms) (way : Way
           (ap (λ c. slice_get c.tasks place) asked.known.code ∙ code_there w.tree name is.0)
           (sym (types_many w.tree callee) ∙ passed_many forms w ts types es passed) (some_body w.tree callee)
           (subst (λ n. Takes n (onto shapes us) [] shapes us) (all_long forms w ts types es passed)
-          (takes_settled shapes us (all_settled forms w ts types es passed)))
+          (takes_settled shapes us (all_settled forms w ts types es passed whole)))
           call_opens);
     }

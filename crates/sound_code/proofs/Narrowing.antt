@@ -4,9 +4,10 @@ use Rattle.std.specs.Prelude.{slice_get, slice_set, length}
 use Rattle.std.proofs.lemmas.Option.{same_Some}
 use Rattle.regent_tree.specs.declared.typing.Bound.{Bound}
 use Rattle.machine_terms.specs.declared.value.Value.{Value}
-use Rattle.fit_rules.specs.Shapes.{Each, Shape, anything, World, Is, is_anything, Are, are_none, are_more}
+use Rattle.fit_rules.specs.Shapes.{Among, Each, Shape, anything, World, Is, is_anything, Are, are_none, are_more}
 use Rattle.fit_rules.specs.Marks.{Fact, Holds, Mark, Into, stacked}
 use Rattle.fit_laws.proofs.Keeping.{get_other}
+use Rattle.fit_laws.proofs.Lookup.{each_among}
 use Rattle.sound_code.specs.Ways.{Way}
 use Rattle.sound_code.specs.Named.{slot_at, AreNamed, Narrower, narrow_none, narrow_same, narrow_any}
 
@@ -65,6 +66,15 @@ narrow_into params m n us h more x vs st s = record {
   top = tt;
   args = s.args;
 }
+
+-- facts are among others
+abbrev pub AtLeast : List Fact → List Fact → Type 0
+AtLeast ks ls = (k : Fact) → Among ks k → Among ls k
+
+pub fewer_facts : (ks ls : List Fact) → AtLeast ks ls → (vs : List Value) → Each (λ k. Holds k vs) ls → Each (λ k. Holds k vs) ks
+fewer_facts [] ls more vs h = tt
+fewer_facts (k ∷ ks) ls more vs h =
+    (each_among (λ f. Holds f vs) ls k (more k (inl refl)) h, fewer_facts ks ls (λ f a. more f (inr a)) vs h)
 
 pub same_facts : (ks ls : List Fact) → ks ≡ ls → (vs : List Value) → Each (λ k. Holds k vs) ks → Each (λ k. Holds k vs) ls
 same_facts ks ls e vs h = subst (λ y. Each (λ k. Holds k vs) y) e h

@@ -2,7 +2,7 @@
 -- sound.
 use Rattle.std.proofs.Common.{◌≡◌, ◌⊎◌, inl, inr, ℕ, ◌<◌, ◌^◌, ◌-◌, ℤ, pos, List, [], ◌∷◌, ◌++◌, map, Bool, true, false, cond, Option, Some, None, refl, sym, ap, ◌∙◌, subst, arith}
 use Rattle.std.specs.Prelude.{length, option_map, replicate, slice_get, ◌==◌}
-use Rattle.std.proofs.lemmas.Bool.{eqb-true, eq-eqb}
+use Rattle.std.proofs.lemmas.Bool.{eqb-true, eq-eqb, false≢true}
 use Rattle.std.proofs.lemmas.Option.{none-some, same_Some, slice_get-map}
 use Rattle.lane_kernels.specs.declared.numbers.Width.{Width}
 use Rattle.regent_tree.specs.declared.typing.StaticType.{StaticType}
@@ -17,7 +17,7 @@ use Rattle.code_rules.specs.Instructions.{tasks_of}
 use Rattle.code_rules.specs.Programs.{task_code}
 use Rattle.code_laws.specs.Programs.{AreTypedTasks, IsTypedRun, call_forms, scalar_forms, region_forms}
 use Rattle.code_laws.specs.Standing.{AreTaken, IsOf, of_integer}
-use Rattle.code_laws.specs.Steps.{Forms, without_pointers}
+use Rattle.code_laws.specs.Steps.{Forms}
 use Rattle.code_laws.proofs.ScalarRuns.{scalar_run}
 use Rattle.fit_rules.specs.Shapes.{NumberIs, World, is_number, Are, are_none, are_more}
 use Rattle.fit_rules.specs.Marks.{Mark, Suits}
@@ -31,10 +31,11 @@ use Rattle.code_laws.specs.Simple.{IsSimple, simple_integer}
 use Rattle.sound_code.specs.Ways.{Way, all_made, opening_facts, shape_in, shape_of}
 use Rattle.sound_code.specs.Programs.{BeginsWell, CallsAreSound, entry_place, first_world, RegionTasksAreSound, RunsSoundly, ScalarTasksAreSound, ScalarProgramsAreSound, TasksRunSoundly}
 use Rattle.sound_code.proofs.Asked.{hands_none, other}
-use Rattle.sound_code.proofs.Calling.{opening_suits, simples_are, simples_named, simples_told, some_body, types_many}
+use Rattle.sound_code.proofs.Calling.{opening_suits, simples_worth, some_body, types_many, worths_are, worths_named, worths_told}
 use Rattle.sound_code.proofs.Entries.{named_there}
 use Rattle.sound_code.proofs.InOrder.{never_breaks, run_keeps_all}
 use Rattle.sound_code.proofs.Parameters.{params_settled}
+use Rattle.sound_code.proofs.Wholes.{not_kept}
 use Rattle.fit_laws.proofs.Taking.{all_there}
 use Rattle.marked_code.proofs.Remarked.{remarked}
 use Rattle.sound_code.proofs.Tasks.{bare, begins, first_of, HasMarks, is_at, IsMarked, marks_of, sound_task, Treated, treat}
@@ -80,9 +81,9 @@ module _ (tree : Tree) (way : Way) (lists : ℕ → List Mark) (marked : IsMarke
       Fits (remarked (bare tree way) (marks_of tree way lists)) (called x args) (task_code tree t) k
       (opening_machine turns depth k (task_code tree t) args)
   simply_opened k t there simples x args turns depth few a = opened k t there x args turns depth few
-      (subst (λ y. Are (called x args) y args) (sym (simples_named (other way t) (length t.params) (param_types tree t) simples))
-      (simples_are x (called x args) (param_types tree t) args simples a))
-      (simples_told (other way t) tree t x (param_types tree t) args simples a)
+      (subst (λ y. Are (called x args) y args) (sym (worths_named (other way t) (length t.params) (param_types tree t) (simples_worth _ simples)))
+      (worths_are x (called x args) (param_types tree t) args (simples_worth _ simples) a))
+      (worths_told (other way t) tree t x (param_types tree t) args (simples_worth _ simples) a)
 
   pub begins_well : (forms : Forms) → slice_get (tasks_of tree) (entry_place tree) ≡ Some (task_named tree (entry_name tree)) →
       BeginsWell forms tree (remarked (bare tree way) (marks_of tree way lists))
@@ -94,7 +95,7 @@ module _ (tree : Tree) (way : Way) (lists : ℕ → List Mark) (marked : IsMarke
 
 -- ---- programs of one task
 
-module _ (forms : Forms) (plain : forms.takes ≡ None) (tree : Tree) (inputs : List ℤ) (p : IsTypedRun (without_pointers forms) tree inputs) where
+module _ (forms : Forms) (plain : forms.takes ≡ None) (unkept : forms.keeps ≡ false) (tree : Tree) (inputs : List ℤ) (p : IsTypedRun forms tree inputs) where
   abbrev entry : TaskTree
   entry = task_named tree (entry_name tree)
 
@@ -102,7 +103,7 @@ module _ (forms : Forms) (plain : forms.takes ≡ None) (tree : Tree) (inputs : 
   entry_there = named_there tree (entry_name tree) _ p.start
 
   entry_marks : HasMarks tree all_made (entry_place tree) entry
-  entry_marks = treat tree all_made forms (entry_place tree) entry entry_there (hands_none plain) tt tt p.typed p.small
+  entry_marks = treat tree all_made forms (entry_place tree) entry entry_there (hands_none plain) tt tt p.typed (λ q. absurd (false≢true (sym unkept ∙ q))) (λ q. tt) (λ q. tt) (not_kept forms.keeps _ unkept) p.small
 
   -- the entry task alone has marks
   abbrev entry_alone : ℕ → List Mark
@@ -135,10 +136,10 @@ module _ (forms : Forms) (plain : forms.takes ≡ None) (tree : Tree) (inputs : 
   }
 
 pub scalar_tasks_are_sound : ScalarTasksAreSound
-scalar_tasks_are_sound tree inputs p = one_task scalar_forms refl tree inputs p
+scalar_tasks_are_sound tree inputs p = one_task scalar_forms refl refl tree inputs p
 
 pub region_tasks_are_sound : RegionTasksAreSound
-region_tasks_are_sound tree inputs p = one_task region_forms refl tree inputs p
+region_tasks_are_sound tree inputs p = one_task region_forms refl refl tree inputs p
 
 pub scalar_programs_are_sound : ScalarProgramsAreSound
 scalar_programs_are_sound tree inputs p = scalar_tasks_are_sound tree inputs (scalar_run tree inputs p)
@@ -171,7 +172,7 @@ module _ (tree : Tree) (way : Way) (marks_at : (k : ℕ) (t : TaskTree) → slic
 
 module _ (tree : Tree) (typed : AreTypedTasks tree) where
   made_at : (k : ℕ) (t : TaskTree) → slice_get (tasks_of tree) k ≡ Some t → HasMarks tree all_made k t
-  made_at k t there = let h = typed k t there in treat tree all_made call_forms k t there (hands_none refl) tt tt h.typed h.small
+  made_at k t there = let h = typed k t there in treat tree all_made call_forms k t there (hands_none refl) tt tt h.typed (λ q. absurd (false≢true q)) (λ q. tt) (λ q. tt) (not_kept false _ refl) h.small
 
   abbrev marks : ℕ → List Mark
   marks = all tree all_made made_at

@@ -1,25 +1,43 @@
 -- The code of tasks of an accepted program is sound by the rules.
-use Rattle.std.proofs.Common.{◌≡◌, ℕ, ◌≤◌, ◌^◌, List, [], Some, false, true, refl}
+use Rattle.std.proofs.Common.{◌≡◌, ℕ, zero, suc, ◌≤◌, ◌^◌, ℤ, List, [], ◌∷◌, ◌++◌, Bool, Some, false, true, inr, refl, subst}
+use Rattle.std.specs.List.{list_all}
+use Rattle.std.proofs.lemmas.Bool.{and_parts, false≢true}
+use Rattle.std.proofs.lemmas.Option.{none-some, same_Some}
 use Rattle.std.specs.Prelude.{length, slice_get}
 use Rattle.regent_tree.specs.StaticTypes.{entry_name, no_task, task_named}
-use Rattle.regent_tree.specs.Syntax.{TaskTree, Tree}
+use Rattle.regent_tree.specs.Syntax.{task_item, TaskTree, Tree}
 use Rattle.check_rules.specs.Breaches.{breaches}
 use Rattle.check_laws.proofs.Bodies.{body_told}
 use Rattle.code_rules.specs.Instructions.{tasks_of}
-use Rattle.code_laws.specs.Programs.{call_forms}
+use Rattle.code_laws.specs.Handing.{AreTypedBy}
+use Rattle.code_laws.specs.Programs.{call_forms, IsTypedRun}
 use Rattle.fit_rules.specs.Marks.{Mark}
 use Rattle.marked_code.proofs.Remarked.{remarked}
-use Rattle.code_laws.proofs.LocalRuns.{plain_run, plain_tasks}
+use Rattle.code_laws.proofs.Entries.{kept_all, kept_item}
+use Rattle.code_laws.proofs.Typing.{AreKept, kept_behind, kept_left, kept_right}
+use Rattle.regent_tree.specs.Limits.{parts_of_block, parts_of_item, parts_of_items, parts_of_params, parts_of_program, parts_of_type}
+use Rattle.sound_code.proofs.Few.{program_few, task_few}
+use Rattle.code_laws.proofs.LocalRuns.{local_run, local_tasks, plain_run, plain_tasks}
 use Rattle.regent_tree.specs.Scopes.{scope_of}
 use Rattle.code_rules.specs.Pieces.{lines}
 use Rattle.code_rules.specs.Programs.{body_piece, place_of, task_code}
 use Rattle.code_laws.specs.Handing.{forms_by}
-use Rattle.code_laws.specs.Steps.{Forms, without_pointers}
+use Rattle.code_laws.specs.Steps.{Forms}
 use Rattle.code_laws.specs.Taking.{pairs_in}
 use Rattle.code_laws.specs.Typed.{IsTypedBlock}
-use Rattle.sound_code.specs.Programs.{AcceptedTasksAreSound, HandingTasksAreSound, LocalProgramsAreSound, TasksKeepRules, BeginsWell}
+use Rattle.sound_code.specs.Programs.{AcceptedTasksAreSound, HandingTasksAreSound, LocalProgramsAreSound, LocalRunsSoundly, WholeProgramsAreSound, TasksKeepRules, BeginsWell}
+use Rattle.sound_code.specs.WholeTasks.{is_whole_program, is_whole_task}
+use Rattle.code_laws.proofs.LocalParams.{all_back, behind_all}
+use Rattle.code_laws.proofs.LocalTrees.{item_of_form, item_stands, task_stands}
+use Rattle.code_laws.specs.LocalPrograms.{IsLocalProgramRun}
+use Rattle.sound_code.proofs.Scoped.{is_by_rules, Scoped}
+use Rattle.code_laws.specs.Pointers.{AllGoBack}
+use Rattle.sound_code.proofs.ScopedNames.{opening_scoped}
+use Rattle.sound_code.proofs.Cuts.{Cut}
+use Rattle.sound_code.proofs.CutParams.{opening_cut}
+use Rattle.sound_code.proofs.Wholes.{Asks, not_kept}
 use Rattle.sound_code.proofs.Asked.{Hands, hands_none, hands_taken}
-use Rattle.sound_code.specs.Ways.{Way, by_rules}
+use Rattle.sound_code.specs.Ways.{Way, by_rules, opening_facts}
 use Rattle.sound_code.proofs.Accepted.{begins_kept, body_without_breach, stands_in}
 use Rattle.sound_code.proofs.Entries.{named_there}
 use Rattle.sound_code.proofs.Openings.{all, all_marked, all_sound, begins_well, opened}
@@ -58,29 +76,67 @@ module _ (tree : Tree) (given : (k : ℕ) (t : TaskTree) → slice_get (tasks_of
 module _ (tree : Tree) (none : breaches tree ≡ []) where
   -- a task of which nothing is told, in these forms
   told_marks : (forms : Forms) (k : ℕ) (t : TaskTree) → slice_get (tasks_of tree) k ≡ Some t → Hands forms (task_code tree t) (by_rules t) tree →
-      IsTypedBlock (without_pointers forms) (place_of tree t) t.body → length (lines (body_piece tree t) 0) ≤ 2 ^ 32 → HasMarks tree way k t
-  told_marks forms k t there hands typed small =
+      IsTypedBlock forms (place_of tree t) t.body → Scoped forms.keeps (by_rules t) (scope_of tree t).names →
+      Cut forms.keeps (by_rules t) (length t.params) (opening_facts (by_rules t) tree t) (scope_of tree t).names → Asks forms.keeps (is_whole_task true tree t) →
+      length (lines (body_piece tree t) 0) ≤ 2 ^ 32 → HasMarks tree way k t
+  told_marks forms k t there hands typed scoped cut whole small =
       treat tree way forms k t there hands (begins_kept tree t (body_told tree t none (stands_in tree k t there)))
-      (body_without_breach tree none k t there) typed small
+      (body_without_breach tree none k t there) typed (λ q. is_by_rules t) scoped cut whole small
+
+  -- where tasks hand regions over, and keep pointers or not
+  handing : (keeping : Bool) → AreTypedBy true keeping tree → (keeping ≡ true → is_whole_program true tree ≡ true) →
+      (keeping ≡ true → (k : ℕ) (t : TaskTree) → slice_get (tasks_of tree) k ≡ Some t → AllGoBack (scope_of tree t).names) → TasksKeepRules tree
+  handing keeping typed whole back = tasks_keep_rules tree (λ k t there. (typed k t there).given) (λ k t there.
+      let h = typed k t there in
+      told_marks (forms_by true keeping tree t) k t there
+      (hands_taken t (record { params = length t.params; needs = (task_code tree t).needs; within = pairs_in (scope_of tree t).known }) refl refl refl refl refl)
+      h.typed (λ q. opening_scoped tree t (back q k t there)) (λ q. opening_cut tree t (back q k t there)) (λ q. each_task (tasks_of tree) k (whole q) there) h.small)
+    where
+      each_task : {t : TaskTree} (ts : List TaskTree) (k : ℕ) → list_all (is_whole_task true tree) ts ≡ true → slice_get ts k ≡ Some t → is_whole_task true tree t ≡ true
+      each_task [] k h e = absurd (none-some _ e)
+      each_task (u ∷ us) zero h e = subst (λ v. is_whole_task true tree v ≡ true) (same_Some _ _ e) (and_parts _ _ h).0
+      each_task (u ∷ us) (suc k) h e = each_task us k (and_parts _ _ h).1 e
 
 pub accepted_tasks_are_sound : AcceptedTasksAreSound
 accepted_tasks_are_sound tree none typed = tasks_keep_rules tree (λ k t there. (typed k t there).given) (λ k t there.
-    let h = typed k t there in told_marks tree none call_forms k t there (hands_none refl) h.typed h.small)
+    let h = typed k t there in told_marks tree none call_forms k t there (hands_none refl) h.typed (λ q. absurd (false≢true q)) (λ q. absurd (false≢true q)) (not_kept false _ refl) h.small)
 
 pub handing_tasks_are_sound : HandingTasksAreSound
-handing_tasks_are_sound tree none typed = tasks_keep_rules tree (λ k t there. (typed k t there).given) (λ k t there.
-    let h = typed k t there in
-    told_marks tree none (forms_by true false tree t) k t there
-    (hands_taken t (record { params = length t.params; needs = (task_code tree t).needs; within = pairs_in (scope_of tree t).known }) refl refl refl refl refl)
-    h.typed h.small)
+handing_tasks_are_sound tree none typed = handing tree none false typed (λ q. absurd (false≢true q)) (λ q. absurd (false≢true q))
+
+-- by the run of such tasks
+begun_soundly : (forms : Forms) (tree : Tree) (inputs : List ℤ) → TasksKeepRules tree → IsTypedRun forms tree inputs → LocalRunsSoundly tree inputs
+begun_soundly forms tree inputs tasks run = record {
+  tasks = tasks;
+  first = λ turns few. tasks.begins forms inputs turns run few;
+  runs = λ turns few. tasks.runs forms inputs turns run few;
+}
 
 pub local_programs_are_sound : LocalProgramsAreSound
-local_programs_are_sound tree inputs p =
-    let tasks = handing_tasks_are_sound tree p.run.accepted (plain_tasks tree inputs p) in
-    let run = plain_run tree inputs p in
-    let forms = forms_by true false tree (task_named tree (entry_name tree)) in
-    record {
-      tasks = tasks;
-      first = λ turns few. tasks.begins forms inputs turns run few;
-      runs = λ turns few. tasks.runs forms inputs turns run few;
-    }
+local_programs_are_sound tree inputs p = begun_soundly (forms_by true false tree (task_named tree (entry_name tree))) tree inputs
+    (handing_tasks_are_sound tree p.run.accepted (plain_tasks tree inputs p)) (plain_run tree inputs p)
+
+-- where a program is of the form, the pointers of parameters go to parameters before them, and partitions are of such
+local_back : (tree : Tree) (inputs : List ℤ) → IsLocalProgramRun tree inputs → (k : ℕ) (t : TaskTree) → slice_get (tasks_of tree) k ≡ Some t →
+    AllGoBack (scope_of tree t).names
+local_back tree inputs p k t at =
+    let s = task_stands tree k t at in
+    all_back tree t.params (behind_all tree t p.accepted p.within (item_stands tree s.0 s.1 t s.2) (item_of_form tree p.local s.0 s.1 t s.2).back)
+
+-- within the limits of a text its pointers' types name few regions
+module _ (tree : Tree) (inputs : List ℤ) (p : IsLocalProgramRun tree inputs) where
+  items_kept : AreKept (parts_of_items tree)
+  items_kept = let every = kept_all (parts_of_program tree) p.within.each in λ q h. every q (inr (inr h))
+
+  local_few : (k : ℕ) (t : TaskTree) → slice_get (tasks_of tree) k ≡ Some t → is_whole_task false tree t ≡ true → is_whole_task true tree t ≡ true
+  local_few k t at =
+      let s = task_stands tree k t at in
+      let parts : AreKept (parts_of_item (task_item t)) = subst (λ form. AreKept (parts_of_item form)) s.2 (kept_item tree items_kept s.0 s.1) in
+      let behind = parts_of_type t.result ++ parts_of_block t.body in
+      let all = kept_behind _ (parts_of_params t.params ++ behind) parts in
+      task_few tree items_kept (forms_by true true tree t) t (kept_left (parts_of_params t.params) behind all)
+      (kept_right (parts_of_type t.result) (parts_of_block t.body) (kept_right (parts_of_params t.params) behind all)) (local_tasks tree inputs p k t at).typed
+
+pub whole_programs_are_sound : WholeProgramsAreSound
+whole_programs_are_sound tree inputs p = begun_soundly (forms_by true true tree (task_named tree (entry_name tree))) tree inputs
+    (handing tree p.run.accepted true (local_tasks tree inputs p.run) (λ q. program_few tree (items_kept tree inputs p.run) (local_few tree inputs p.run) p.whole) (λ q. local_back tree inputs p.run)) (local_run tree inputs p.run)

@@ -1,12 +1,13 @@
 -- The code that tasks are compiled to is sound, with marks that are chosen task by task.
-use Rattle.std.proofs.Common.{◌≡◌, ◌⊎◌, ⊎_elim, ℕ, zero, suc, ◌<◌, ◌≤◌, ◌-◌, ◌^◌, List, [], ◌∷◌, ◌++◌, map, Option, Some, None, refl, sym, ap, ◌∙◌, subst, arith, append_assoc, length-append}
+use Rattle.std.proofs.Common.{◌≡◌, ◌⊎◌, ⊎_elim, ℕ, zero, suc, ◌<◌, ◌≤◌, ◌-◌, ◌^◌, List, [], ◌∷◌, ◌++◌, map, Option, Some, None, true, refl, sym, ap, ◌∙◌, subst, arith, append_assoc, length-append}
 use Rattle.std.specs.Prelude.{length, get_or, option_map, replicate, slice_get}
 use Rattle.std.proofs.lemmas.List.{append-nil, length-map, length-replicate}
 use Rattle.std.proofs.lemmas.Option.{get_or_from_slice_get, none-some, same_Some, slice_get-map}
 use Rattle.regent_tree.specs.declared.typing.Bound.{Bound}
 use Rattle.regent_tree.specs.declared.typing.StaticType.{StaticType}
 use Rattle.regent_tree.specs.Scopes.{scope_of}
-use Rattle.regent_tree.specs.StaticTypes.{no_task}
+use Rattle.regent_tree.specs.StaticTypes.{field_term, no_task}
+use Rattle.value_laws.specs.Shapes.{regions_listed}
 use Rattle.regent_tree.specs.Syntax.{Tree, TaskTree}
 use Rattle.regent_tree.specs.Typing.{param_types, result_type}
 use Rattle.task_code.specs.declared.code.TaskCode.{TaskCode}
@@ -15,7 +16,7 @@ use Rattle.code_rules.specs.Pieces.{lines}
 use Rattle.code_rules.specs.Programs.{body_piece, code_of, task_code, place_of}
 use Rattle.code_rules.specs.Statements.{block_code}
 use Rattle.code_laws.specs.Programs.{task_setting}
-use Rattle.code_laws.specs.Steps.{Forms, without_pointers}
+use Rattle.code_laws.specs.Steps.{Forms}
 use Rattle.code_laws.specs.Typed.{IsTypedBlock}
 use Rattle.code_laws.proofs.Openings.{AreFrom, fits_slots, least_slots, params_from, params_length, types_in, types_cons, types_length}
 use Rattle.code_laws.proofs.Places.{stands_alone}
@@ -26,6 +27,10 @@ use Rattle.fit_rules.specs.Sound.{IsSound}
 use Rattle.marked_code.specs.Marked.{Typed}
 use Rattle.sound_code.specs.Named.{slot_at, AreNamed, HasSlots, Ready}
 use Rattle.sound_code.specs.Ways.{Way, all_made, by_rules, opening_facts, shape_in, shape_of}
+use Rattle.sound_code.specs.WholeTasks.{is_whole_task}
+use Rattle.sound_code.proofs.Cuts.{Cut}
+use Rattle.sound_code.proofs.Scoped.{IsByRules, Scoped}
+use Rattle.sound_code.proofs.Wholes.{Asks}
 use Rattle.sound_code.proofs.Grounds.{Ground, HasFacts}
 use Rattle.sound_code.proofs.Steady.{steady_below}
 use Rattle.sound_code.proofs.Told.{ToldBlock}
@@ -122,7 +127,7 @@ module _ (tree : Tree) (way : Way) where
   abbrev pub bare : Program
   bare = record {
     code = code_of tree;
-    positions = λ sp f. 0;
+    positions = λ sp f. regions_listed (field_term tree sp f);
     results = λ k. shape_of (result_type tree (task_at k).result);
     marks = λ k pc. first_of (task_at k);
   }
@@ -133,6 +138,7 @@ module _ (tree : Tree) (way : Way) where
   bare_known : (t : TaskTree) → Known (other way t) bare tree
   bare_known t = record {
     code = refl;
+    positions = λ sp f. refl;
     results = λ k t e. ap (λ y. shape_of (result_type tree y.result)) (is_at k t e);
     begins = λ k u e. ap first_of (is_at k u e) ∙ ap (λ y. opening_mark y tree u) (sym (other_same way t u));
   }
@@ -151,12 +157,14 @@ module _ (tree : Tree) (way : Way) where
 
   pub treat : (forms : Forms) (k : ℕ) (t : TaskTree) → slice_get (tasks_of tree) k ≡ Some t → Hands forms (task_code tree t) (other way t) tree →
       Ground (task_code tree t) (other way t) tree (length t.params) (scope_of tree t) → ToldBlock (other way t) tree (scope_of tree t) t.body →
-      IsTypedBlock (without_pointers forms) (place_of tree t) t.body → length (lines (body_piece tree t) 0) ≤ 2 ^ 32 → HasMarks k t
-  treat forms k t there hands ground told typed small =
+      IsTypedBlock forms (place_of tree t) t.body → (forms.keeps ≡ true → IsByRules (other way t)) → Scoped forms.keeps (other way t) (scope_of tree t).names →
+      Cut forms.keeps (other way t) (length t.params) (opening_facts (other way t) tree t) (scope_of tree t).names → Asks forms.keeps (is_whole_task true tree t) →
+      length (lines (body_piece tree t) 0) ≤ 2 ^ 32 → HasMarks k t
+  treat forms k t there hands ground told typed ruled scoped cut whole small =
       let code = task_code tree t in
       let m = first_of t in
       let have : HasSlots code code.slots = fits_slots (task_setting forms tree 0 0 0 [] t) tree t refl in
-      let f = block_marked bare code k code.slots have forms (other way t) (place_of tree t) m t.body typed
+      let f = block_marked bare code k code.slots have forms (other way t) (place_of tree t) m t.body typed whole
       (record {
         hands = hands;
         ready = opening_ready tree (other way t) t;
@@ -166,6 +174,9 @@ module _ (tree : Tree) (way : Way) where
         known = bare_known t;
         ground = ground;
         facts = facts_open way tree t;
+        ruled = ruled;
+        scoped = scoped;
+        cut = cut;
       }) told 0 (stands_alone (body_piece tree t) small).0 in
       record {
         marks = f.is.marks ++ stacked f.next [] ∷ [];

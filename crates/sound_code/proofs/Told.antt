@@ -4,7 +4,7 @@ use Rattle.std.proofs.lemmas.Bool.{and_parts}
 use Rattle.plain_values.proofs.Plain.{option_or_parts}
 use Rattle.regent_tree.specs.Lookup.{type_named}
 use Rattle.regent_tree.specs.Scopes.{Scope}
-use Rattle.regent_tree.specs.Syntax.{Tree, TaskTree, Name, Arms, call_form, Block, Expression, Expressions, Form, Links, a_link, a_statement, access_expr, an_arm, an_expr, at_step, call_expr, chain_expr, convert_expr, field_step, no_link, no_step, prefix_expr, space_expr, then_statement}
+use Rattle.regent_tree.specs.Syntax.{Tree, TaskTree, Name, Arms, call_form, cast_expr, is_null_expr, Block, Expression, Expressions, Form, Links, a_link, a_statement, access_expr, an_arm, an_expr, at_step, call_expr, chain_expr, convert_expr, field_step, no_link, no_step, prefix_expr, space_expr, then_statement}
 use Rattle.regent_tree.specs.Typing.{scope_after, scope_after_block}
 use Rattle.regent_tree.specs.Scopes.{past}
 use Rattle.regent_tree.specs.declared.expression.Arithmetic.TheVariants.{Subtract}
@@ -13,6 +13,7 @@ use Rattle.regent_tree.specs.declared.expression.Operator.TheVariants.{Compute}
 use Rattle.regent_tree.specs.declared.expression.Sign.{Sign}
 use Rattle.regent_tree.specs.declared.types.Kind.{Kind}
 use Rattle.regent_tree.specs.declared.types.NumberTerm.{NumberTerm}
+use Rattle.regent_tree.specs.declared.types.PointerTerm.{PointerTerm}
 use Rattle.regent_tree.specs.declared.typing.StaticType.{StaticType}
 use Rattle.regent_tree.proofs.Members.{Has, Has-append_left, Has-append_right}
 use Rattle.check_rules.specs.first.FirstInExpressions.{first_in_args, first_in_expression, first_in_links, first_in_type, first_of_call}
@@ -28,7 +29,7 @@ use Rattle.check_laws.specs.Laws.{IsWithoutBreach}
 use Rattle.check_laws.specs.MeantVisits.{meant_in, meant_in_arms, meant_within}
 use Rattle.check_laws.specs.SoundScopes.{IsSoundScope}
 use Rattle.code_rules.specs.Slots.{Where}
-use Rattle.code_laws.specs.Steps.{Forms, without_pointers}
+use Rattle.code_laws.specs.Steps.{Forms}
 use Rattle.code_laws.specs.Typed.{IsTyped}
 use Rattle.code_laws.proofs.LocalTypes.{simple_no_partition}
 use Rattle.code_laws.proofs.TypedStatements.{listed_told}
@@ -38,7 +39,9 @@ use Rattle.check_rules.specs.types.Sorts.{is_partition, may_be}
 use Rattle.check_rules.specs.Breaches.{has_no_type}
 use Rattle.check_rules.specs.scopes.Visits.{declared_at}
 use Rattle.check_rules.specs.declared.rule.Rule.TheVariants as rule
+use Rattle.sound_code.specs.WholeTasks.{is_whole_expression}
 use Rattle.sound_code.specs.Ways.{Way, all_made, by_rules}
+use Rattle.sound_code.proofs.Wholes.{Asks, IsWorth, read_worth, worth_pointer, worth_simple}
 
 -- ---- expressions
 
@@ -107,6 +110,19 @@ module _ (tree : Tree) (s : Scope) where
   told_element all_made n e f h = tt
   told_element (by_rules task) n e f h =
       let p = option_or_parts _ _ h.1 in (h.0, (option_or_parts (first_in_expression tree task s e) _ p.1).0)
+
+  pub told_at : (way : Way) (n : Name) (e : Expression) → Told way tree s (access_expr n (at_step e no_step)) → Told way tree s e
+  told_at all_made n e h = tt
+  told_at (by_rules task) n e h =
+      let p = option_or_parts _ _ h.1 in (h.0, (option_or_parts (first_in_expression tree task s e) _ p.1).0)
+
+  pub told_is_null : (way : Way) (e : Expression) → Told way tree s (is_null_expr e) → Told way tree s e
+  told_is_null all_made e h = tt
+  told_is_null (by_rules task) e h = (h.0, (option_or_parts (first_in_expression tree task s e) _ h.1).0)
+
+  pub told_cast : (way : Way) (c : PointerTerm) (e : Expression) → Told way tree s (cast_expr c e) → Told way tree s e
+  told_cast all_made c e h = tt
+  told_cast (by_rules task) c e h = (h.0, (option_or_parts (first_in_expression tree task s e) _ h.1).0)
 
 -- ---- statements
 
@@ -188,17 +204,21 @@ module _ (tree : Tree) where
     told_listed all_made es h = tt
     told_listed (by_rules task) es h = (h.0, listed_told tree task s es h.1)
 
--- a typed value of a variable is no difference of partitions
-no_difference : (forms : Forms) (w : Where) (e : Expression) → IsTyped (without_pointers forms) w e → is_difference w.scope.names e ≡ true → ⊥
-no_difference forms w (chain_expr (access_expr p no_step) (a_link (Compute Subtract) (access_expr q no_step) no_link)) f d =
-    no_way (sym (and_parts (may_be is_partition (type_named w.scope.names p)) (may_be is_partition (type_named w.scope.names q)) d).0
-    ∙ simple_no_partition _ f.0.1)
-no_difference forms w _ f d = absurd cc
+worth_no_partition : (t : StaticType) → IsWorth t → may_be is_partition t ≡ false
+worth_no_partition t (worth_simple _ s) = simple_no_partition t s
+worth_no_partition _ (worth_pointer k sp args rs few) = refl
 
-pub told_plain : (way : Way) (forms : Forms) (w : Where) (e : Expression) → IsTyped (without_pointers forms) w e →
+-- the value of a variable is no difference of partitions
+no_difference : (forms : Forms) (w : Where) (e : Expression) → IsTyped forms w e → Asks forms.keeps (is_whole_expression true w e) → is_difference w.scope.names e ≡ true → ⊥
+no_difference forms w (chain_expr (access_expr p no_step) (a_link (Compute Subtract) (access_expr q no_step) no_link)) f whole d =
+    no_way (sym (and_parts (may_be is_partition (type_named w.scope.names p)) (may_be is_partition (type_named w.scope.names q)) d).0
+    ∙ worth_no_partition _ (read_worth forms.keeps _ f.0.1 (λ k. (and_parts _ _ (whole k)).0)))
+no_difference forms w _ f whole d = absurd cc
+
+pub told_plain : (way : Way) (forms : Forms) (w : Where) (e : Expression) → IsTyped forms w e → Asks forms.keeps (is_whole_expression true w e) →
     ToldList way w.tree w.scope (cond (is_difference w.scope.names e) (members_of e) (e ∷ [])) → Told way w.tree w.scope e
-told_plain way forms w e f h = chosen (is_difference w.scope.names e) refl h
+told_plain way forms w e f whole h = chosen (is_difference w.scope.names e) refl h
   where
     chosen : (b : Bool) → is_difference w.scope.names e ≡ b → ToldList way w.tree w.scope (cond b (members_of e) (e ∷ [])) → Told way w.tree w.scope e
-    chosen true q h = absurd (no_difference forms w e f q)
+    chosen true q h = absurd (no_difference forms w e f whole q)
     chosen false q h = (told_first w.tree w.scope way e [] h).0

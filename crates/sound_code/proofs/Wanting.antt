@@ -1,15 +1,15 @@
 -- Accesses to fields at points of regions that have names, of which no breach is told, are granted.
-use Rattle.std.proofs.Common.{◌≡◌, inl, inr, ℕ, ◌<◌, List, [], ◌∷◌, Bool, true, false, ◌&&◌, ◌||◌, not, None, refl, sym, ap, ◌∙◌, subst, cond, arith}
+use Rattle.std.proofs.Common.{◌≡◌, inl, inr, ℕ, ◌<◌, List, [], ◌∷◌, Bool, true, false, ◌&&◌, ◌||◌, not, None, Some, refl, sym, ap, ◌∙◌, subst, cond, arith}
 use Rattle.std.specs.Prelude.{bytes_eq, flat_map, length, ◌+◌, suc}
 use Rattle.std.specs.List.{position_or_len}
-use Rattle.std.specs.List.{list_any}
+use Rattle.std.specs.List.{list_all, list_any}
 use Rattle.std.proofs.lemmas.Bool.{and_parts, not-false}
 use Rattle.plain_values.proofs.Plain.{option_or_parts}
 use Rattle.regent_tree.specs.Accesses.{space_in}
 use Rattle.regent_tree.specs.Lookup.{has_field, is_bound}
 use Rattle.regent_tree.specs.Scopes.{Scope}
 use Rattle.regent_tree.specs.StaticTypes.{field_place, space_at}
-use Rattle.regent_tree.specs.Syntax.{Expression, Form, Name, TaskTree, Tree, access_expr, assign_form, at_step, field_step, fill_form, no_step}
+use Rattle.regent_tree.specs.Syntax.{Expression, Form, Name, TaskTree, Tree, access_expr, assign_form, at_step, field_step, fill_form, Initializer, no_step, var_form}
 use Rattle.regent_tree.specs.Typing.{type_of_element}
 use Rattle.regent_tree.specs.declared.rights.Access.{Access}
 use Rattle.regent_tree.specs.declared.rights.Access.TheVariants as access
@@ -17,6 +17,11 @@ use Rattle.regent_tree.specs.declared.statement.How.{How}
 use Rattle.regent_tree.specs.declared.statement.How.TheVariants as how
 use Rattle.regent_tree.specs.declared.typing.StaticType.{StaticType}
 use Rattle.regent_tree.proofs.Members.{Has}
+use Rattle.check_rules.specs.rules.Names.{unbound_name_in_initializer}
+use Rattle.check_rules.specs.rules.Partitions.{mispartitions_initializer}
+use Rattle.check_rules.specs.rules.Partitions.{miscolours_initializer}
+use Rattle.check_rules.specs.scopes.Variables.{types_in_initializer}
+use Rattle.check_rules.specs.scopes.Variables.{written_in_initializer}
 use Rattle.check_rules.specs.Breaches.{has_no_type, wrong_initializer_at}
 use Rattle.check_rules.specs.rules.Names.{unbound_name_in_form}
 use Rattle.check_rules.specs.rules.Statements.{standing_in_form}
@@ -26,7 +31,7 @@ use Rattle.check_rules.specs.scopes.Visits.{call_of_form, declared_at, heads_of,
 use Rattle.check_rules.specs.first.FirstInExpressions.{first_in_expression, first_in_type, first_of_call, first_of_standing, first_of_step, first_of_taking}
 use Rattle.check_rules.specs.first.FirstInStatements.{first_in_targets, first_of_form, first_of_initializer}
 use Rattle.check_rules.specs.first.Rules.{first_in, rule_if}
-use Rattle.check_rules.specs.rules.Privileges.{lacks, may_do, reductions_by, rights_declared, wanted_of_region, wanted_of_step, wanting, writes_by}
+use Rattle.check_rules.specs.rules.Privileges.{lacks, may_do, reads_in_initializer, reductions_by, rights_declared, wanted_of_region, wanted_of_step, wanting, writes_by}
 use Rattle.check_rules.specs.scopes.Sound.{IsSound}
 use Rattle.check_rules.specs.types.KnownTypes.{known_type, known_type_after_step}
 use Rattle.check_rules.specs.types.Sorts.{is_number}
@@ -39,7 +44,8 @@ use Rattle.check_laws.proofs.Variables.{target_of_form}
 use Rattle.expression_laws.proofs.Calls.{flat_has}
 use Rattle.expression_laws.proofs.Steps.{all_has}
 use Rattle.code_rules.specs.Slots.{Where, bound, typed}
-use Rattle.code_laws.specs.Simple.{IsNumber, IsRegion, a_region_type}
+use Rattle.code_laws.specs.Pointers.{counts_number, counts_pointer, IsCounting}
+use Rattle.code_laws.specs.Simple.{IsRegion, a_region_type}
 use Rattle.code_laws.proofs.LocalPlaces.{taking_told}
 use Rattle.code_laws.proofs.LocalTypes.{number_is}
 use Rattle.lane_kernels.specs.declared.numbers.Op.{Op}
@@ -55,7 +61,7 @@ use Rattle.sound_code.proofs.Told.{Told, ToldForm}
 -- ---- lists
 
 -- what stands before the end of a list is there
-below_any : {A : Type 0} (p : A → Bool) (xs : List A) → position_or_len p xs < length xs → list_any p xs ≡ true
+pub below_any : {A : Type 0} (p : A → Bool) (xs : List A) → position_or_len p xs < length xs → list_any p xs ≡ true
 below_any p [] l = absurd (omega (arith, l))
 below_any p (x ∷ xs) l = chosen (p x) l (below_any p xs)
   where
@@ -68,7 +74,7 @@ below_any p (x ∷ xs) l = chosen (p x) l (below_any p xs)
 
 module _ (tree : Tree) (task : TaskTree) (s : Scope) where
   -- what a statement writes and reduces isn't lacking
-  not_lacking : (form : Form) → first_of_form tree task s form ≡ None →
+  pub not_lacking : (form : Form) → first_of_form tree task s form ≡ None →
       (lacks tree task s (writes_by tree s form) ≡ false) × (lacks tree task s (reductions_by tree s form) ≡ false)
   not_lacking form e =
       let a = option_or_parts (first_in (first_in_type tree s.names) (declared_at form)) _ e in
@@ -90,7 +96,11 @@ module _ (tree : Tree) (task : TaskTree) (s : Scope) where
 
 -- ---- an element of a region that has a name
 
-module _ (w : Where) (n : Name) (e : Expression) (f : Name) (number : IsNumber (typed w e)) (is : IsRegion (bound w n).static_type) where
+counting_is : (t : StaticType) → IsCounting t → is_number t ≡ true
+counting_is t (counts_number _ h) = number_is t h
+counting_is _ (counts_pointer k sp args rs) = refl
+
+module _ (w : Where) (n : Name) (e : Expression) (f : Name) (number : IsCounting (typed w e)) (is : IsRegion (bound w n).static_type) where
   -- what is taken of it
   abbrev taken : StaticType → StaticType
   taken u = known_type_after_step w.tree (element_of u (known_type w.tree w.scope e)) (type_of_element w.scope u e)
@@ -104,7 +114,7 @@ module _ (w : Where) (n : Name) (e : Expression) (f : Name) (number : IsNumber (
         may_do (rights_declared w.tree task) w.scope.known (wanting (place u) a (term_in u)) ≡ true
     granted scope told _ (a_region_type q sp args r) a none lacking =
         let u = region_type q sp args r in
-        let num : is_number (known_type w.tree w.scope e) ≡ true = ap is_number (head_known w.tree task sound w.scope scope e told).1 ∙ number_is _ number in
+        let num : is_number (known_type w.tree w.scope e) ≡ true = ap is_number (head_known w.tree task sound w.scope scope e told).1 ∙ counting_is _ number in
         let same : taken u ≡ type_of_element w.scope u e =
         ap (λ b. type_unless (not b || false || false || false) (type_of_element w.scope u e)) num in
         let there = not-false (has_field w.tree sp f)
@@ -208,3 +218,40 @@ pub may_fill_first : (way : Way) (tree : Tree) (s : Scope) (u : StaticType) (f :
 may_fill_first all_made tree s u f fs h l = (tt, tt)
 may_fill_first (by_rules task) tree s u f fs h l =
     (h f (inl refl) (below_any (λ (p : Param). bytes_eq p.name f) (space_at tree (space_in u)).fields l), λ k i. h k (inr i))
+
+-- ---- fields that partitions are made by
+
+-- the field by which a partition of a region of a type is made may be read
+pub may_scan : (way : Way) (w : Where) (x r f : Name) (init : Initializer) → IsRegion (bound w r).static_type →
+    field_place w.tree (space_in (bound w r).static_type) f < length (space_at w.tree (space_in (bound w r).static_type)).fields →
+    reads_in_initializer w.tree w.scope.names init ≡ wanted_of_region w.tree access.Read (bound w r).static_type f →
+    ToldForm way w.tree w.scope (var_form x None (Some init)) →
+    May way w.tree w.scope (bound w r).static_type (field_place w.tree (space_in (bound w r).static_type) f) access.Read
+may_scan all_made w x r f init is l same h = tt
+may_scan (by_rules task) w x r f init is l same h =
+    of (bound w r).static_type is l (subst (λ ws. lacks w.tree task w.scope ws ≡ false) same (rule_none _ rule.Read (scanned h.1.form)))
+  where
+    scanned : first_of_form w.tree task w.scope (var_form x None (Some init)) ≡ None →
+        rule_if (lacks w.tree task w.scope (reads_in_initializer w.tree w.scope.names init)) rule.Read ≡ None
+    scanned q =
+        let form = var_form x None (Some init) in
+        let a = option_or_parts (first_in (first_in_type w.tree w.scope.names) []) _ q in
+        let b = option_or_parts (rule_if (has_no_type form) rule.Type) _ a.1 in
+        let c = option_or_parts (first_in (first_in_expression w.tree task w.scope) (heads_of w.scope.names form)) _ b.1 in
+        let d = option_or_parts (first_in_targets w.tree task w.scope form) _ c.1 in
+        let u = option_or_parts (rule_if (unbound_name_in_form w.tree w.scope.names form) rule.Name) _ d.1 in
+        let i = option_or_parts (first_in (first_of_initializer w.tree task w.scope) (init ∷ [])) _ u.1 in
+        let o = option_or_parts (first_of_initializer w.tree task w.scope init) _ i.0 in
+        let v = option_or_parts (first_in (first_in_type w.tree w.scope.names) (written_in_initializer init)) _ o.0 in
+        let y = option_or_parts (rule_if (unbound_name_in_initializer w.tree w.scope.names init) rule.Name) _ v.1 in
+        let z = option_or_parts (rule_if (mispartitions_initializer w.tree w.scope init) rule.Partition) _ y.1 in
+        let n = option_or_parts (rule_if (miscolours_initializer init (types_in_initializer w.tree w.scope init)) rule.Partition) _ z.1 in
+        (option_or_parts (rule_if (lacks w.tree task w.scope (reads_in_initializer w.tree w.scope.names init)) rule.Read) _ n.1).0
+
+    of : (u : StaticType) → IsRegion u → field_place w.tree (space_in u) f < length (space_at w.tree (space_in u)).fields →
+        lacks w.tree task w.scope (wanted_of_region w.tree access.Read u f) ≡ false →
+        may_do (rights_declared w.tree task) w.scope.known (wanting (field_place w.tree (space_in u) f) access.Read (term_in u)) ≡ true
+    of _ (a_region_type k sp args q) l none =
+        let there : has_field w.tree sp f ≡ true = below_any (λ (p : Param). bytes_eq p.name f) (space_at w.tree sp).fields l in
+        let all = subst (λ b. list_all (may_do (rights_declared w.tree task) w.scope.known) (cond b (wanting (field_place w.tree sp f) access.Read q ∷ []) []) ≡ true) there (not-false _ none) in
+        (and_parts (may_do (rights_declared w.tree task) w.scope.known (wanting (field_place w.tree sp f) access.Read q)) true all).0

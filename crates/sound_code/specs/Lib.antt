@@ -1,6 +1,9 @@
 pub mod Ways
 pub mod Named
+pub mod WholeTasks
 pub mod Programs
 pub mod Example
 pub mod RulesExample
 pub mod HandingExample
+pub mod WholeExample
+pub mod CutsExample

@@ -23,7 +23,7 @@ use Rattle.fit_runs.specs.Runs.{BeginsFitting, Comes}
 use Rattle.code_rules.specs.Instructions.{place_of_task, tasks_of}
 use Rattle.code_rules.specs.Programs.{code_of, task_code}
 use Rattle.code_laws.specs.Handing.{AreTypedBy}
-use Rattle.code_laws.specs.LocalPrograms.{IsPlainProgramRun}
+use Rattle.code_laws.specs.LocalPrograms.{IsLocalProgramRun, IsPlainProgramRun}
 use Rattle.code_laws.specs.Programs.{AreTypedTasks, IsTypedRun, call_forms, job_of, region_forms, scalar_forms}
 use Rattle.code_laws.specs.ScalarPrograms.{IsScalarProgramRun}
 use Rattle.code_laws.specs.Simple.{IsSimple}
@@ -35,6 +35,7 @@ use Rattle.fit_rules.specs.Sound.{IsSound}
 use Rattle.fit_laws.specs.Segments.{PassesTest}
 use Rattle.check_rules.specs.Breaches.{breaches}
 use Rattle.fit_rules.specs.Marks.{Holds}
+use Rattle.sound_code.specs.WholeTasks.{is_whole_program}
 use Rattle.sound_code.specs.Ways.{by_rules, opening_facts, shape_in, shape_of}
 
 -- the entry task's code
@@ -138,7 +139,7 @@ CallsAreSound = (tree : Tree) → AreTypedTasks tree → TasksRunSoundly tree
 abbrev pub argument_shapes : Tree → TaskTree → List Shape
 argument_shapes tree t = map (shape_in (by_rules t) (length t.params)) (param_types tree t)
 
--- what a task's clauses tell of its arguments holds of them
+-- what a task's clauses tell of its arguments holds of them, and each partition is of the region that its type names
 abbrev pub AreConstrained : Tree → TaskTree → List Value → Type 0
 AreConstrained tree t args = Each (λ f. Holds f args) (opening_facts (by_rules t) tree t)
 
@@ -176,3 +177,12 @@ pub record LocalRunsSoundly (tree : Tree) (inputs : List ℤ) : Type 0 where
 
 abbrev pub LocalProgramsAreSound : Type 0
 LocalProgramsAreSound = (tree : Tree) (inputs : List ℤ) → IsPlainProgramRun tree inputs → LocalRunsSoundly tree inputs
+
+-- one whose tasks hand regions over by name and take no parts of partitions
+pub record IsWholeProgramRun (tree : Tree) (inputs : List ℤ) : Type 0 where
+  pub run : IsLocalProgramRun tree inputs
+  pub whole : is_whole_program false tree ≡ true
+
+-- so it is of each such program
+abbrev pub WholeProgramsAreSound : Type 0
+WholeProgramsAreSound = (tree : Tree) (inputs : List ℤ) → IsWholeProgramRun tree inputs → LocalRunsSoundly tree inputs

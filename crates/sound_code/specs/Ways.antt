@@ -3,13 +3,13 @@ use Rattle.std.specs.Prelude.{ℕ, List, [], ◌∷◌, ◌&&◌, cond, flat_map
 use Rattle.regent_tree.specs.Scopes.{scope_of}
 use Rattle.regent_tree.specs.Syntax.{TaskTree, Tree}
 use Rattle.regent_tree.specs.declared.facts.Known.{Known}
-use Rattle.regent_tree.specs.declared.facts.Known.TheVariants.{Within, Apart}
+use Rattle.regent_tree.specs.declared.facts.Known.TheVariants.{Within, Apart, PartOf}
 use Rattle.regent_tree.specs.declared.facts.Term.{Term}
 use Rattle.regent_tree.specs.declared.facts.Term.TheVariants.{Name, Child}
 use Rattle.regent_tree.specs.declared.typing.StaticType.{StaticType}
 use Rattle.regent_tree.specs.declared.typing.StaticType.TheVariants.{Integer as integer_type, Truth as truth_type, Index as index_type, Pointer as pointer_type, Ispace as ispace_type, Region as region_type, Partition as partition_type}
 use Rattle.fit_rules.specs.Shapes.{Shape, anything, integer, truth, index, pointer, space, region, partition, Origin, unknown, argument, own_root, own_as}
-use Rattle.fit_rules.specs.Marks.{apart, Fact, in_slot, lies}
+use Rattle.fit_rules.specs.Marks.{apart, Fact, in_slot, lies, parted}
 
 -- A task is looked at in one of two ways: as one that made each region which it names, or by the rules on its
 -- privileges and constraints, where the regions of its parameters are given.
@@ -40,10 +40,11 @@ abbrev pub shape_in : Way → ℕ → StaticType → Shape
 shape_in way params (region_type k sp args r) = region (Some sp) (origin_in way params r)
 shape_in way params t = shape_of t
 
--- what a constraint tells of parameters in their slots
+-- what a constraint tells of parameters in their slots, and a partition's type
 abbrev pub told_by : ℕ → Known → List Fact
 told_by params (Within (Name a) (Name b)) = cond (nat_lt a params && nat_lt b params) (lies (in_slot a) (in_slot b) ∷ []) []
 told_by params (Apart (Name a) (Name b)) = cond (nat_lt a params && nat_lt b params) (apart (in_slot a) (in_slot b) ∷ []) []
+told_by params (PartOf p r d) = cond (nat_lt p params && nat_lt r params) (parted p r ∷ []) []
 told_by params k = []
 
 -- what is known of a task's parameters where it begins

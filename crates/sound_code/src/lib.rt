@@ -3,10 +3,12 @@
 //! The laws are stated under specs/. Each function has an empty body; its contract is a law.
 #![tactic(auto)]
 
+ghost use Rattle.sound_code.specs.CutsExample.{CutsExampleHolds};
 ghost use Rattle.sound_code.specs.Example.{CodeExampleHolds};
 ghost use Rattle.sound_code.specs.HandingExample.{HandedIsSound, HandsExampleHolds};
 ghost use Rattle.sound_code.specs.RulesExample.{HistogramIsSound, RulesExampleHolds};
-ghost use Rattle.sound_code.specs.Programs.{AcceptedTasksAreSound, CallsAreSound, HandingTasksAreSound, LocalProgramsAreSound, RegionTasksAreSound, ScalarProgramsAreSound, ScalarTasksAreSound};
+ghost use Rattle.sound_code.specs.Programs.{AcceptedTasksAreSound, CallsAreSound, HandingTasksAreSound, LocalProgramsAreSound, RegionTasksAreSound, ScalarProgramsAreSound, ScalarTasksAreSound, WholeProgramsAreSound};
+ghost use Rattle.sound_code.specs.WholeExample.{WholeExampleHolds};
 
 /// Where the entry task's body is typed and treats scalars alone, its code is sound, and the frame in which
 /// its run begins fits, whatever its inputs and turns; and so it is of each accepted program over scalars.
@@ -51,6 +53,14 @@ pub fn local_programs_are_sound()
     ensures { LocalProgramsAreSound }
 {}
 
+/// So is the code of each accepted program whose tasks hand regions over by name and take no parts of partitions. Indices and
+/// pointers are kept, handed over and had in fields, through pointers fields are read, written and reduced, loops go over
+/// regions, and partitions are made, also of others, and their colours are gone through.
+#[tactic(auto, using(crate::proofs::Rules::whole_programs_are_sound))]
+pub fn whole_programs_are_sound()
+    ensures { WholeProgramsAreSound }
+{}
+
 /// A program with roots and calls of which each premise holds, and a run that begins in it.
 #[tactic(auto, using(crate::proofs::Example::code_example_holds))]
 pub fn code_example_holds()
@@ -71,4 +81,17 @@ pub fn rules_example_holds()
 pub fn handing_example_holds()
     ensures example { HandsExampleHolds }
     ensures handed { HandedIsSound }
+{}
+
+/// An accepted program that keeps indices and pointers, goes over a region and hands a pointer over, of which each premise
+/// holds.
+#[tactic(auto, using(crate::proofs::WholeExample::whole_example_holds))]
+pub fn whole_example_holds()
+    ensures { WholeExampleHolds }
+{}
+
+/// An accepted program that makes partitions in each way, also of one that a task is given, of which each premise holds.
+#[tactic(auto, using(crate::proofs::CutsExample::cuts_example_holds))]
+pub fn cuts_example_holds()
+    ensures { CutsExampleHolds }
 {}

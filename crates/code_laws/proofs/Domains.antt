@@ -1,0 +1,275 @@
+-- Loops over index spaces, over regions that have names, and over parts of partitions that have names.
+use Rattle.std.proofs.Common.{◌≡◌, ◌⊎◌, inl, inr, ℕ, suc, ◌^◌, ◌<◌, ◌≤◌, List, [], ◌∷◌, ◌++◌, Bool, true, pos, Some, refl, sym, ap, ◌∙◌, subst, ⊎_elim}
+use Rattle.std.specs.Prelude.{get_or, length}
+use Rattle.std.proofs.lemmas.List.{append_assoc}
+use Rattle.plain_values.specs.Points.{has}
+use Rattle.check_laws.proofs.Scopes.{found_by_number}
+use Rattle.regent_tree.specs.Accesses.{space_in}
+use Rattle.regent_tree.specs.Evaluation.{value}
+use Rattle.regent_tree.specs.Execution.{Going, after_statement, exec, exec_block, items_of, looping, rounds as rounds_over}
+use Rattle.regent_tree.specs.Running.{Here, Run, State}
+use Rattle.regent_tree.specs.Scopes.{bound_as, bound_to}
+use Rattle.regent_tree.specs.StaticTypes.{Reach}
+use Rattle.regent_tree.specs.Syntax.{Name, Expression, number_expr, truth_expr, chain_expr, prefix_expr, call_expr, access_expr, convert_expr, is_null_expr, null_expr, cast_expr, space_expr, no_step, field_step, at_step, for_in_form, Block}
+use Rattle.regent_tree.specs.Typing.{child_type, colour_of, is_pointer, parent_of, reaches_of, scope_after_block, taken_from, type_of_element}
+use Rattle.regent_tree.specs.Values.{Partition, Region, Value, a_region, region_of}
+use Rattle.regent_tree.specs.declared.facts.Term.{Term}
+use Rattle.regent_tree.specs.declared.facts.Term.TheVariants as term
+use Rattle.regent_tree.specs.declared.types.Kind.{Kind}
+use Rattle.regent_tree.specs.declared.typing.Bound.{Bound}
+use Rattle.regent_tree.specs.declared.typing.StaticType.{StaticType}
+use Rattle.regent_tree.specs.declared.typing.StaticType.TheVariants.{Integer as integer_type, Truth as truth_type, Index as index_type, Pointer as pointer_type, Ispace as ispace_type, Region as region_type, Partition as partition_type, Nothing as no_type, Unknown as unknown_type}
+use Rattle.task_code.specs.declared.instr.Instr.TheVariants as instr
+use Rattle.machine_terms.specs.declared.order.Instance.{Instance}
+use Rattle.code_rules.specs.Expressions.{expr_code}
+use Rattle.code_rules.specs.Pieces.{Piece, op, past, rounds}
+use Rattle.code_rules.specs.Slots.{Where, beside, bound, counter, slot, typed}
+use Rattle.code_rules.specs.Statements.{block_code, form_code}
+use Rattle.code_laws.specs.Arguments.{IsCutName}
+use Rattle.code_laws.specs.Pointers.{AreReached, IsCut, IsOfPart}
+use Rattle.code_laws.specs.Simple.{IsRegion, IsSpace, a_region_type}
+use Rattle.code_laws.specs.Standing.{Agrees, Aside, Does, IsInside, IsOf, SlotsFit, Stands, nothing, of_region, program_of, where_of}
+use Rattle.code_laws.specs.Steps.{Setting, placed}
+use Rattle.code_laws.specs.Typed.{CountsDown, IsIndexed, IsNamedRegion, IsOwnCut, IsTyped, LoopsOverPart, IsLooped, LoopsOver}
+use Rattle.code_laws.proofs.Expressions.{value_runs}
+use Rattle.code_laws.proofs.Good.{valued}
+use Rattle.code_laws.proofs.Names.{Grown, block_grown}
+use Rattle.code_laws.proofs.Operations.{named_runs}
+use Rattle.code_laws.proofs.Parts.{GoodPart, IsColoured, cut_of, parent_inside, part_at_colour, part_lies_in, part_runs, part_within}
+use Rattle.code_laws.proofs.Pointing.{own_reached}
+use Rattle.code_laws.proofs.Reaching.{region_lies_in}
+use Rattle.code_laws.proofs.RegionLoops.{regions_run}
+use Rattle.code_laws.proofs.Rows.{does_as, does_before, does_said}
+use Rattle.code_laws.proofs.Runs.{then}
+use Rattle.code_laws.proofs.SpaceLoops.{spaces_run}
+use Rattle.code_laws.proofs.Values.{named}
+use Rattle.code_laws.proofs.Wider.{loops_over, looped_over}
+
+-- ---- the type of a part
+
+-- the region that a part is
+pub record IsChild (t parent : StaticType) (u : Term) : Type 0 where
+  pub kind : Kind
+  pub space : ℕ
+  pub args : List Reach
+  pub is : t ≡ region_type kind space args u
+  pub of_space : space ≡ space_in parent
+
+child_is : (parent : StaticType) (u : Term) → IsRegion (child_type parent u) → IsChild (child_type parent u) parent u
+child_is (region_type k sp args r) u region = record { kind = k; space = sp; args = args; is = refl; of_space = refl }
+child_is (integer_type w) u region = absurd (elim region [ ])
+child_is truth_type u region = absurd (elim region [ ])
+child_is (index_type k) u region = absurd (elim region [ ])
+child_is (pointer_type k sp args rs) u region = absurd (elim region [ ])
+child_is (ispace_type k) u region = absurd (elim region [ ])
+child_is (partition_type d r p) u region = absurd (elim region [ ])
+child_is no_type u region = absurd (elim region [ ])
+child_is unknown_type u region = absurd (elim region [ ])
+
+pub part_is : (w : Where) (n : Name) (e : Expression) → IsOwnCut w n → IsRegion (typed w (access_expr n (at_step e no_step))) →
+    IsChild (typed w (access_expr n (at_step e no_step))) (bound_as w.scope.names (parent_of (bound w n).static_type)).static_type
+    (term.Child (bound w n).number (colour_of w.scope e))
+part_is w n e own region =
+    let u = term.Child (bound w n).number (colour_of w.scope e) in
+    let parent = (bound_as w.scope.names (parent_of (bound w n).static_type)).static_type in
+    let is : typed w (access_expr n (at_step e no_step)) ≡ child_type parent u = ap (λ t. type_of_element w.scope t e) own in
+    let c = child_is parent u (subst IsRegion is region) in
+    record { kind = c.kind; space = c.space; args = c.args; is = is ∙ c.is; of_space = c.of_space }
+
+-- a part lies within the region of which its partition is
+part_of_name : (w : Where) (names : List Value) (n : Name) (q : Partition) (c : ℕ) → IsCutName w n → c < length q.sets →
+    IsCut w.scope.names names (parent_of (bound w n).static_type) q →
+    IsOfPart w.scope.names (bound_as w.scope.names (bound w n).number) (length w.scope.names) names
+    (space_in (bound_as w.scope.names (parent_of (bound w n).static_type)).static_type) (bound w n).number (part_at_colour q c)
+part_of_name w names n q c cut low is =
+    subst (λ (b : Bound). IsOfPart w.scope.names b (length w.scope.names) names
+    (space_in (bound_as w.scope.names (parent_of (bound w n).static_type)).static_type) (bound w n).number (part_at_colour q c))
+    (sym (found_by_number w.scope.next w.scope.names n cut.numbers cut.named).0)
+    (record {
+      numbered = refl;
+      partition = cut.partition;
+      parent = is.parent;
+      is = is.is;
+      root = is.root;
+      within = λ k e. part_within is.parent.points q.sets c k is.sets low e;
+    })
+
+-- a region has a region's type
+region_of_type : (t : StaticType) (q : Region) → IsRegion t → IsOf t (a_region q)
+region_of_type _ q (a_region_type k sp args r) = of_region k sp args r q
+
+one_region : (d u : Region) → a_region d ≡ a_region u → d ≡ u
+one_region d u e = ap region_of e
+
+module _ (x : Setting) (params slots : ℕ) (fit : SlotsFit x slots) (counts : CountsDown) where
+  -- a loop over a region that stands on the stack
+  regions_over : (aside : Aside) (h h2 : Here) (name : Name) (t : StaticType) (v : Value) (body : Run Going) (code : Piece)
+      (s : State) (pc : ℕ) (i : Instance) → IsRegion t → IsOf t v →
+      ((q : Region) → v ≡ a_region q → ((n : ℕ) → has q.points n ≡ true → n < 2 ^ 32) × (q.root < length s.store)) →
+      ((q : Region) → v ≡ a_region q → AreReached h.scope.names s.names (space_in t) (reaches_of (taken_from t)) (q ∷ [])) →
+      params ≤ length h.scope.names → Agrees x params slots aside h s i →
+      Stands x.body pc (op (instr.Store (beside (where_of params h) (length h.scope.names))) h.line) →
+      Stands x.body (suc pc) (op (instr.Num (pos 0)) h.line) →
+      Stands x.body (suc (suc pc)) (op (instr.Store (counter (where_of params h) (length h.scope.names))) h.line) →
+      Stands x.body (suc (suc (suc pc))) (rounds (instr.NextPoint (beside (where_of params h) (length h.scope.names))
+      (counter (where_of params h) (length h.scope.names)) (slot (where_of params h) (length h.scope.names)) (is_pointer (taken_from t))) h.line code) →
+      Grown h.scope.names h2.scope.names → program_of h2 ≡ program_of h →
+      ((aside2 : Aside) (s1 : State) (j : Instance) → Agrees x params slots aside2 (looping h name (taken_from t)) s1 j →
+      Does x params slots aside2 (placed (suc (suc (suc (suc pc)))) [] j) (past code (suc (suc (suc (suc pc))))) h2 (body s1)) →
+      Does x params slots aside (valued pc [] v i) (suc (past code (suc (suc (suc (suc pc)))))) h (rounds_over h (items_of v) body s)
+  regions_over aside h h2 name _ _ body code s pc i (a_region_type k sp args r) (of_region _ _ _ _ q) inside reach low g f1 f2 f3 f4 grown same more =
+      regions_run x params slots fit counts aside h h2 name k sp args (Some r) q body code s pc i (inside q refl).0 (inside q refl).1 low (reach q refl) g
+      f1 f2 f3 f4 grown same more
+
+  -- what a block of a loop comes to
+  abbrev BlockRuns : Here → Block → Type 0
+  BlockRuns h1 body = (aside2 : Aside) (s5 : State) (p : ℕ) (j5 : Instance) → Agrees x params slots aside2 h1 s5 j5 →
+      Stands x.body p (block_code (where_of params h1) body) →
+      Does x params slots aside2 (placed p [] j5) (past (block_code (where_of params h1) body) p)
+      (record h1 { scope = scope_after_block h1.tree h1.scope body }) (exec_block h1 body s5)
+
+  -- `for n in domain`, over an index space or a region that has a name
+  points_run : (aside : Aside) (h : Here) (demanded : Bool) (n : Name) (domain : Expression) (body : Block) (s : State) (pc : ℕ)
+      (i : Instance) → params ≤ length h.scope.names →
+      IsSpace (typed (where_of params h) domain) ⊎ IsNamedRegion (where_of params h) domain → IsTyped x.forms (where_of params h) domain →
+      Agrees x params slots aside h s i → Stands x.body pc (form_code (where_of params h) (for_in_form demanded n domain body)) →
+      BlockRuns (looping h n (taken_from (typed (where_of params h) domain))) body →
+      Does x params slots aside (placed pc [] i) (past (form_code (where_of params h) (for_in_form demanded n domain body)) pc)
+      (after_statement h (for_in_form demanded n domain body)) (exec h (for_in_form demanded n domain body) s)
+  points_run aside h demanded n domain body s pc i low (inl space) fine g f more =
+      let w = where_of params h in
+      let t = typed w domain in
+      let a = past (expr_code w 0 domain) pc in
+      let done = past (form_code w (for_in_form demanded n domain body)) pc in
+      let h1 = looping h n (taken_from t) in
+      let h2 = record h1 { scope = scope_after_block h.tree h1.scope body } in
+      let grown = block_grown h.tree h1.scope body in
+      does_as x params slots fit counts aside _ h (after_statement h (for_in_form demanded n domain body)) _ _ (refl, refl)
+      (then x (does_said x params slots fit counts aside done h) _ _ _ (value h domain s) _
+      (value_runs x params slots fit aside h 0 low domain s pc [] i fine g f.0)
+      (λ v s1 j k1. spaces_run x params slots fit counts aside h h2 n t v (exec_block h1 body) (block_code (where_of params h1) body)
+      s1 a j space k1.0 low k1.1 f.1.0 f.1.1.0 f.1.1.1.0 f.1.1.1.1
+      (record { more = grown.more ++ _ ∷ []; are = grown.are ∙ sym (append_assoc grown.more (_ ∷ []) h.scope.names) }) refl
+      (λ aside2 s5 j5 g5. more aside2 s5 (suc (suc (suc (suc a)))) j5 g5 f.1.1.1.1.1)))
+  points_run aside h demanded n (access_expr q no_step) body s pc i low (inr p) fine g f more =
+      let w = where_of params h in
+      let domain = access_expr q no_step in
+      let b = bound_to h.scope.names q in
+      let t = b.static_type in
+      let m = named IsOf h.scope.names s.names q g.typed fine.0 in
+      let v = get_or s.names b.place nothing in
+      let h1 = looping h n (taken_from t) in
+      let h2 = record h1 { scope = scope_after_block h.tree h1.scope body } in
+      let grown = block_grown h.tree h1.scope body in
+      let r = named_runs x params slots fit aside h q s pc [] i fine.0 g f.0.0 in
+      does_as x params slots fit counts aside _ h (after_statement h (for_in_form demanded n domain body)) _ _ (refl, refl)
+      (does_before x params slots fit counts aside _ h _ _ _ r.1
+      (regions_over aside h h2 n t v (exec_block h1 body) (block_code (where_of params h1) body) s (suc pc) r.0 p.0 m.holding
+      (λ d e. let l = region_lies_in x s.store t d p.0 (subst (IsInside x s.store t) e (named (IsInside x s.store) h.scope.names s.names q g.inside_store fine.0).holding) in
+      (λ k f. l.small k f, l.there))
+      (λ d e. own_reached w b t s.names d p.1 g.typed e) low r.2.1 f.1.0 f.1.1.0 f.1.1.1.0 f.1.1.1.1
+      (record { more = grown.more ++ _ ∷ []; are = grown.are ∙ sym (append_assoc grown.more (_ ∷ []) h.scope.names) }) refl
+      (λ aside2 s5 j5 g5. more aside2 s5 (suc (suc (suc (suc (suc pc))))) j5 g5 f.1.1.1.1.1)))
+  points_run aside h demanded n (access_expr q (field_step _ _)) body s pc i low (inr p) fine g f more = absurd p
+  points_run aside h demanded n (access_expr q (at_step _ _)) body s pc i low (inr p) fine g f more = absurd p
+  points_run aside h demanded n (number_expr _ _) body s pc i low (inr p) fine g f more = absurd p
+  points_run aside h demanded n (truth_expr _) body s pc i low (inr p) fine g f more = absurd p
+  points_run aside h demanded n (chain_expr _ _) body s pc i low (inr p) fine g f more = absurd p
+  points_run aside h demanded n (prefix_expr _ _) body s pc i low (inr p) fine g f more = absurd p
+  points_run aside h demanded n (call_expr _ _) body s pc i low (inr p) fine g f more = absurd p
+  points_run aside h demanded n (convert_expr _ _) body s pc i low (inr p) fine g f more = absurd p
+  points_run aside h demanded n (is_null_expr _) body s pc i low (inr p) fine g f more = absurd p
+  points_run aside h demanded n (null_expr _) body s pc i low (inr p) fine g f more = absurd p
+  points_run aside h demanded n (cast_expr _ _) body s pc i low (inr p) fine g f more = absurd p
+  points_run aside h demanded n (space_expr _ _) body s pc i low (inr p) fine g f more = absurd p
+
+  -- a part that stands on the stack
+  part_over : (aside : Aside) (h : Here) (demanded : Bool) (n q : Name) (e : Expression) (body : Block) (v : Value) (s : State) (a : ℕ) (j : Instance) →
+      params ≤ length h.scope.names → IsCutName (where_of params h) q → IsOwnCut (where_of params h) q →
+      IsRegion (typed (where_of params h) (access_expr q (at_step e no_step))) → IsColoured h q e v s.names → Agrees x params slots aside h s j →
+      Stands x.body a (op (instr.Store (beside (where_of params h) (length h.scope.names))) h.line) →
+      Stands x.body (suc a) (op (instr.Num (pos 0)) h.line) →
+      Stands x.body (suc (suc a)) (op (instr.Store (counter (where_of params h) (length h.scope.names))) h.line) →
+      Stands x.body (suc (suc (suc a))) (rounds (instr.NextPoint (beside (where_of params h) (length h.scope.names))
+      (counter (where_of params h) (length h.scope.names)) (slot (where_of params h) (length h.scope.names))
+      (is_pointer (taken_from (typed (where_of params h) (access_expr q (at_step e no_step)))))) h.line
+      (block_code (where_of params (looping h n (taken_from (typed (where_of params h) (access_expr q (at_step e no_step)))))) body)) →
+      BlockRuns (looping h n (taken_from (typed (where_of params h) (access_expr q (at_step e no_step))))) body →
+      Does x params slots aside (valued a [] v j)
+      (suc (past (block_code (where_of params (looping h n (taken_from (typed (where_of params h) (access_expr q (at_step e no_step)))))) body)
+      (suc (suc (suc (suc a)))))) h
+      (rounds_over h (items_of v) (exec_block (looping h n (taken_from (typed (where_of params h) (access_expr q (at_step e no_step))))) body) s)
+  part_over aside h demanded n q e body v s a j low cut own region coloured g f1 f2 f3 f4 more =
+      let w = where_of params h in
+      let t = typed w (access_expr q (at_step e no_step)) in
+      let h1 = looping h n (taken_from t) in
+      let h2 = record h1 { scope = scope_after_block h.tree h1.scope body } in
+      let grown = block_grown h.tree h1.scope body in
+      let r = parent_of (bound w q).static_type in
+      let c = cut_of x params slots fit aside h s j q coloured.partition cut coloured.has_it g in
+      let d = part_at_colour coloured.partition coloured.colour in
+      let kind = part_is w q e own region in
+      let lies = part_lies_in x.code s.store (space_in (bound_as h.scope.names r).static_type) c.parent coloured.partition coloured.colour c.root c.sets coloured.low
+      (region_lies_in x s.store (bound_as h.scope.names r).static_type c.parent c.is.region
+      (parent_inside x params slots fit aside h s j r coloured.partition c g)) in
+      let reached : AreReached h.scope.names s.names (space_in t) (reaches_of (taken_from t)) (d ∷ []) =
+      subst (λ u. AreReached h.scope.names s.names (space_in u) (reaches_of (taken_from u)) (d ∷ [])) (sym kind.is) (
+        subst (λ sp. IsOfPart h.scope.names (bound_as h.scope.names (bound w q).number) (length h.scope.names) s.names sp (bound w q).number d) (sym kind.of_space)
+            (part_of_name w s.names q coloured.partition coloured.colour cut coloured.low c),
+        tt,
+      ) in
+      subst (λ v. Does x params slots aside (valued a [] v j) (suc (past (block_code (where_of params h1) body) (suc (suc (suc (suc a)))))) h
+      (rounds_over h (items_of v) (exec_block h1 body) s)) (sym coloured.is)
+      (regions_over aside h h2 n t (a_region d) (exec_block h1 body) (block_code (where_of params h1) body) s a j region (region_of_type t d region)
+      (λ u same. subst (λ (u : Region). ((k : ℕ) → has u.points k ≡ true → k < 2 ^ 32) × (u.root < length s.store)) (one_region d u same) (λ k f. lies.small k f, lies.there))
+      (λ u same. subst (λ (u : Region). AreReached h.scope.names s.names (space_in t) (reaches_of (taken_from t)) (u ∷ [])) (one_region d u same) reached) low g
+      f1 f2 f3 f4
+      (record { more = grown.more ++ _ ∷ []; are = grown.are ∙ sym (append_assoc grown.more (_ ∷ []) h.scope.names) }) refl
+      (λ aside2 s5 j5 g5. more aside2 s5 (suc (suc (suc (suc a)))) j5 g5 f4.1))
+
+  -- `for n in p[e]`
+  parts_run : (aside : Aside) (h : Here) (demanded : Bool) (n : Name) (domain : Expression) (body : Block) (s : State) (pc : ℕ)
+      (i : Instance) → params ≤ length h.scope.names → LoopsOverPart (where_of params h) domain (IsIndexed x.forms (where_of params h) domain) →
+      Agrees x params slots aside h s i → Stands x.body pc (form_code (where_of params h) (for_in_form demanded n domain body)) →
+      BlockRuns (looping h n (taken_from (typed (where_of params h) domain))) body →
+      Does x params slots aside (placed pc [] i) (past (form_code (where_of params h) (for_in_form demanded n domain body)) pc)
+      (after_statement h (for_in_form demanded n domain body)) (exec h (for_in_form demanded n domain body) s)
+  parts_run aside h demanded n (access_expr q (at_step e no_step)) body s pc i low part g f more =
+      let w = where_of params h in
+      let domain = access_expr q (at_step e no_step) in
+      let a = past (expr_code w 0 domain) pc in
+      let done = past (form_code w (for_in_form demanded n domain body)) pc in
+      does_as x params slots fit counts aside _ h (after_statement h (for_in_form demanded n domain body)) _ _ (refl, refl)
+      (then x (does_said x params slots fit counts aside done h) (valued a []) (GoodPart x params slots fit aside h q e) _ (value h domain s) _
+      (part_runs x params slots fit aside h 0 q e s pc [] i part.0
+      (λ pc st. value_runs x params slots fit aside h 0 low e s pc [] i part.3.0 g st) part.3.1 g f.0)
+      (λ v s1 j k. part_over aside h demanded n q e body v s1 a j low part.0 part.1 part.2 k.0 k.1 f.1.0 f.1.1.0 f.1.1.1.0 f.1.1.1.1 more))
+  parts_run aside h demanded n (access_expr q (at_step e (field_step _ _))) body s pc i low part g f more = absurd part
+  parts_run aside h demanded n (access_expr q (at_step e (at_step _ _))) body s pc i low part g f more = absurd part
+  parts_run aside h demanded n (access_expr q no_step) body s pc i low part g f more = absurd part
+  parts_run aside h demanded n (access_expr q (field_step _ _)) body s pc i low part g f more = absurd part
+  parts_run aside h demanded n (number_expr _ _) body s pc i low part g f more = absurd part
+  parts_run aside h demanded n (truth_expr _) body s pc i low part g f more = absurd part
+  parts_run aside h demanded n (chain_expr _ _) body s pc i low part g f more = absurd part
+  parts_run aside h demanded n (prefix_expr _ _) body s pc i low part g f more = absurd part
+  parts_run aside h demanded n (call_expr _ _) body s pc i low part g f more = absurd part
+  parts_run aside h demanded n (convert_expr _ _) body s pc i low part g f more = absurd part
+  parts_run aside h demanded n (is_null_expr _) body s pc i low part g f more = absurd part
+  parts_run aside h demanded n (null_expr _) body s pc i low part g f more = absurd part
+  parts_run aside h demanded n (cast_expr _ _) body s pc i low part g f more = absurd part
+  parts_run aside h demanded n (space_expr _ _) body s pc i low part g f more = absurd part
+
+  -- `for n in domain`, whose body is typed
+  pub domains_run : (aside : Aside) (h : Here) (demanded : Bool) (n : Name) (domain : Expression) (body : Block) (s : State) (pc : ℕ)
+      (i : Instance) → params ≤ length h.scope.names → (Body : Type 0) →
+      IsLooped x.forms.keeps (where_of params h) domain (IsTyped x.forms (where_of params h) domain) (IsIndexed x.forms (where_of params h) domain) Body →
+      Agrees x params slots aside h s i → Stands x.body pc (form_code (where_of params h) (for_in_form demanded n domain body)) →
+      (Body → BlockRuns (looping h n (taken_from (typed (where_of params h) domain))) body) →
+      Does x params slots aside (placed pc [] i) (past (form_code (where_of params h) (for_in_form demanded n domain body)) pc)
+      (after_statement h (for_in_form demanded n domain body)) (exec h (for_in_form demanded n domain body) s)
+  domains_run aside h demanded n domain body s pc i low Body fine g f more =
+      let w = where_of params h in ⊎_elim
+      (λ (a : LoopsOver x.forms.keeps w domain × IsTyped x.forms w domain × Body).
+      points_run aside h demanded n domain body s pc i low (loops_over x.forms.keeps w domain a.0) a.1 g f (more a.2))
+      (λ (a : LoopsOverPart w domain (IsIndexed x.forms w domain) × Body). parts_run aside h demanded n domain body s pc i low a.0 g f (more a.1))
+      (looped_over x.forms.keeps w domain _ _ Body fine)

@@ -1,0 +1,6 @@
+use Rattle.journal_progress.proofs.Journals.{held_parts_are_apart}
+use Rattle.journal_progress.proofs.held_parts_are_apart.Goals as goal
+
+-- src/lib.rt
+pub returns : goal.returns
+returns c = held_parts_are_apart

@@ -1,0 +1,17 @@
+-- The premises of the law on tasks that take no parts hold of a program that makes partitions in each way.
+use Rattle.std.proofs.Common.{[], ◌∷◌, pos, refl, arith}
+use Rattle.std.proofs.lemmas.Int.{ints}
+use Rattle.regent_tree.specs.Limits.{parts_of_program, WithinLimits}
+use Rattle.code_laws.proofs.LocalExample.{all_keep}
+use Rattle.sound_code.specs.Programs.{IsWholeProgramRun}
+use Rattle.sound_code.specs.CutsExample.{cuts_program, CutsExampleHolds}
+use Rattle.sound_code.proofs.Rules.{whole_programs_are_sound}
+
+within : WithinLimits cuts_program
+within = record { each = all_keep (parts_of_program cuts_program) refl; nodes = omega (arith) }
+
+run : IsWholeProgramRun cuts_program (pos 2 ∷ [])
+run = record { run = record { within = within; accepted = refl; local = refl; numbers = (omega (arith, ints), tt) }; whole = refl }
+
+pub cuts_example_holds : CutsExampleHolds
+cuts_example_holds = record { run = run; sound = whole_programs_are_sound cuts_program (pos 2 ∷ []) run }

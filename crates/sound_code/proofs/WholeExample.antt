@@ -1,0 +1,17 @@
+-- The premises of the law on tasks that take no parts hold of a program that keeps pointers.
+use Rattle.std.proofs.Common.{[], ◌∷◌, pos, refl, arith}
+use Rattle.std.proofs.lemmas.Int.{ints}
+use Rattle.regent_tree.specs.Limits.{parts_of_program, WithinLimits}
+use Rattle.code_laws.proofs.LocalExample.{all_keep}
+use Rattle.sound_code.specs.Programs.{IsWholeProgramRun}
+use Rattle.sound_code.specs.WholeExample.{follows_program, WholeExampleHolds}
+use Rattle.sound_code.proofs.Rules.{whole_programs_are_sound}
+
+within : WithinLimits follows_program
+within = record { each = all_keep (parts_of_program follows_program) refl; nodes = omega (arith) }
+
+run : IsWholeProgramRun follows_program (pos 2 ∷ [])
+run = record { run = record { within = within; accepted = refl; local = refl; numbers = (omega (arith, ints), tt) }; whole = refl }
+
+pub whole_example_holds : WholeExampleHolds
+whole_example_holds = record { run = run; sound = whole_programs_are_sound follows_program (pos 2 ∷ []) run }

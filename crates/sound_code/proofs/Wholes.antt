@@ -1,0 +1,342 @@
+-- What is asked of a task where it may keep pointers: that it takes no part of a partition. So what it reads, keeps, assigns, fills in
+-- and hands over is a number, a truth, an index, an index space or a pointer of few regions.
+use Rattle.std.proofs.Common.{◌≡◌, ◌⊎◌, inl, inr, ℕ, zero, suc, ◌≤◌, Bool, true, false, ◌&&◌, ◌||◌, List, [], ◌∷◌, None, Option, Some, refl, sym, ap, ◌∙◌, subst, arith, ⊎_elim}
+use Rattle.std.specs.Prelude.{length, nat_le}
+use Rattle.std.proofs.lemmas.Bool.{and_parts, false≢true, leb-true, or_cases, not-true}
+use Rattle.std.proofs.lemmas.Option.{none-some, same_Some}
+use Rattle.regent_tree.specs.Syntax.{access_expr, an_expr, at_step, call_expr, cast_expr, chain_expr, convert_expr, Expression, Expressions, field_step, is_null_expr, Name, no_expr, no_step, null_expr, number_expr, prefix_expr, space_expr, truth_expr}
+use Rattle.regent_tree.specs.Typing.{owned, reaches_of}
+use Rattle.regent_tree.specs.declared.types.Kind.{Kind}
+use Rattle.regent_tree.specs.declared.typing.Bound.{Bound}
+use Rattle.regent_tree.specs.declared.typing.StaticType.{StaticType}
+use Rattle.regent_tree.specs.declared.typing.StaticType.TheVariants.{Integer as integer_type, Truth as truth_type, Index as index_type, Pointer as pointer_type, Ispace as ispace_type, Region as region_type, Partition as partition_type, Nothing as no_type, Unknown as unknown_type}
+use Rattle.regent_tree.specs.StaticTypes.{Reach}
+use Rattle.task_code.specs.declared.code.NeedCode.{NeedCode}
+use Rattle.check_rules.specs.types.Sorts.{is_partition, is_region}
+use Rattle.code_rules.specs.Slots.{typed, Where}
+use Rattle.code_laws.specs.Arguments.{IsCutName, IsHanded, IsHandedPart, IsMet, IsMetAt, IsMetPart, name_at, part_at, part_of}
+use Rattle.code_laws.specs.Pointers.{a_pointer_type, Assigned, assigned_plain, assigned_pointer, Begins, begins_plain, begins_pointer, Filled, filled_plain, filled_pointer, fills_alike, fills_index, GoesInto, into_plain, BeginsAs, BeginsWith, IsAssigned, KeepsAs, keeps_index, keeps_plain, keeps_pointer, zero_scalar, IsPointer, IsRead, Passes, passes_plain, passes_pointer, PassesInto}
+use Rattle.code_laws.specs.Simple.{a_partition_type, a_region_type, AreAlike, IsPartition, IsRegion, fits_32, fits_64, fits_truth, IsSimple, number_index, number_integer, simple_index, simple_integer, simple_space, simple_truth, two_integers, two_truths}
+use Rattle.code_laws.specs.Steps.{Taking}
+use Rattle.code_laws.specs.Typed.{IsBegun, IsDifference, IsKeepable}
+use Rattle.code_laws.proofs.Arguments.{alike_other, given_by, goes_other, IsCutArgument, IsNoRegion, IsPartArgument, passes_other}
+use Rattle.code_laws.proofs.Wider.{into_simple, keepable, zero_simple}
+use Rattle.lane_kernels.specs.declared.numbers.FieldKind.{FieldKind}
+use Rattle.fit_rules.specs.Shapes.{pointer, numeric_index, numeric_integer, numeric_pointer, numeric_truth}
+use Rattle.fit_rules.specs.Sound.{Settled, settled_number, settled_space}
+use Rattle.sound_code.specs.Named.{IsNumbered}
+use Rattle.sound_code.specs.WholeTasks.{are_whole_arguments, is_value, is_whole_expression, names_region}
+use Rattle.sound_code.specs.Ways.{shape_in, shape_of, Way}
+use Rattle.code_rules.specs.Initializers.{names_child}
+
+-- where pointers may be kept, it is so
+abbrev pub Asks : Bool → Bool → Type 0
+Asks keeps b = keeps ≡ true → b ≡ true
+
+-- nothing is asked where they are not
+pub not_kept : (keeps b : Bool) → keeps ≡ false → Asks keeps b
+not_kept keeps b e q = absurd (false≢true (sym e ∙ q))
+
+pub asks_first : (keeps a b : Bool) → Asks keeps (a && b) → Asks keeps a
+asks_first keeps a b h q = (and_parts a b (h q)).0
+
+pub asks_second : (keeps a b : Bool) → Asks keeps (a && b) → Asks keeps b
+asks_second keeps a b h q = (and_parts a b (h q)).1
+
+-- ---- types
+
+pub data IsWorth : StaticType → Type 0 where
+  worth_simple : (t : StaticType) → IsSimple t → IsWorth t
+  worth_pointer : (k : Kind) (sp : ℕ) (args rs : List Reach) → length rs ≤ 4 → IsWorth (pointer_type k sp args rs)
+
+-- a pointer's type names few regions
+abbrev pub HasFew : StaticType → Type 0
+HasFew t = length (reaches_of t) ≤ 4
+
+pub value_worth : (t : StaticType) → is_value true t ≡ true → IsWorth t
+value_worth (integer_type w) e = worth_simple _ (simple_integer w)
+value_worth truth_type e = worth_simple _ simple_truth
+value_worth (index_type k) e = worth_simple _ (simple_index k)
+value_worth (ispace_type k) e = worth_simple _ (simple_space k)
+value_worth (pointer_type k sp args rs) e = worth_pointer k sp args rs (leb-true (length rs) 4 (and_parts (nat_le (length rs) 4) _ e).0)
+value_worth (region_type k sp args r) e = absurd (false≢true e)
+value_worth (partition_type d r p) e = absurd (false≢true e)
+value_worth no_type e = absurd (false≢true e)
+value_worth unknown_type e = absurd (false≢true e)
+
+pub alike_simple : (t u : StaticType) → AreAlike t u → IsSimple u
+alike_simple _ _ (two_integers v w) = simple_integer w
+alike_simple _ _ two_truths = simple_truth
+
+pub simple_few : (t : StaticType) → IsSimple t → HasFew t
+simple_few _ (simple_integer w) = omega arith
+simple_few _ simple_truth = omega arith
+simple_few _ (simple_index k) = omega arith
+simple_few _ (simple_space k) = omega arith
+
+pub worth_few : (t : StaticType) → IsWorth t → HasFew t
+worth_few t (worth_simple _ s) = simple_few t s
+worth_few _ (worth_pointer k sp args rs few) = few
+
+partition_no_value : (t : StaticType) → IsPartition t → is_value true t ≡ true → ⊥
+partition_no_value _ (a_partition_type d r p) e = false≢true e
+
+pub partition_no_region : (t : StaticType) → IsPartition t → is_region t ≡ true → ⊥
+partition_no_region _ (a_partition_type d r p) e = false≢true e
+
+region_no_value : (t : StaticType) → IsRegion t → is_value true t ≡ true → ⊥
+region_no_value _ (a_region_type k sp args r) e = false≢true e
+
+-- ---- shapes
+
+pub worth_settled : (u : StaticType) → IsWorth u → Settled (shape_of u)
+worth_settled _ (worth_simple _ (simple_integer w)) = settled_number _ (numeric_integer w)
+worth_settled _ (worth_simple _ simple_truth) = settled_number _ numeric_truth
+worth_settled _ (worth_simple _ (simple_space c)) = settled_space
+worth_settled _ (worth_simple _ (simple_index c)) = settled_number _ numeric_index
+worth_settled _ (worth_pointer k sp args rs few) = settled_number _ (numeric_pointer _)
+
+pub worth_named : (way : Way) (params : ℕ) (u : StaticType) → IsWorth u → shape_in way params u ≡ shape_of u
+worth_named way params _ (worth_simple _ (simple_integer w)) = refl
+worth_named way params _ (worth_simple _ simple_truth) = refl
+worth_named way params _ (worth_simple _ (simple_space c)) = refl
+worth_named way params _ (worth_simple _ (simple_index c)) = refl
+worth_named way params _ (worth_pointer k sp args rs few) = refl
+
+pub worth_numbered : (way : Way) (params : ℕ) (bs : List Bound) (u : StaticType) → IsWorth u → IsNumbered bs (shape_in way params u)
+worth_numbered way params bs _ (worth_simple _ (simple_integer w)) = tt
+worth_numbered way params bs _ (worth_simple _ simple_truth) = tt
+worth_numbered way params bs _ (worth_simple _ (simple_space c)) = tt
+worth_numbered way params bs _ (worth_simple _ (simple_index c)) = tt
+worth_numbered way params bs _ (worth_pointer k sp args rs few) = tt
+
+-- ---- what is read and kept
+
+-- what a name has that is read
+pub read_worth : (b : Bool) (t : StaticType) → IsRead b t → Asks b (is_value true t) → IsWorth t
+read_worth false t p h = worth_simple t p
+read_worth true t p h = value_worth t (h refl)
+
+-- ---- what goes into something
+
+-- a value of a type becomes one of another: it goes into it, or both are pointers
+pub data Becomes : StaticType → StaticType → Type 0 where
+  becomes_plain : (t u : StaticType) → GoesInto t u → Becomes t u
+  becomes_pointer : (t : StaticType) (k : Kind) (sp : ℕ) (args rs : List Reach) → IsPointer t → Becomes t (pointer_type k sp args rs)
+
+to_pointer : (t u : StaticType) → IsPointer t → IsPointer u → Becomes t u
+to_pointer t _ p (a_pointer_type k sp args rs names) = becomes_pointer t k sp args rs p
+
+pub assigned_becomes : (t u : StaticType) → Assigned t u → Becomes t u
+assigned_becomes t u (assigned_plain _ _ g) = becomes_plain t u g
+assigned_becomes t u (assigned_pointer _ _ p q) = to_pointer t u p q
+
+pub begins_becomes : (bs : List Bound) (t u : StaticType) → Begins bs t u → Becomes t u
+begins_becomes bs t u (begins_plain _ _ g) = becomes_plain t u g
+begins_becomes bs t u (begins_pointer _ _ p q) = to_pointer t u p q.0
+
+pub filled_becomes : (t u : StaticType) → Filled t u → Becomes t u
+filled_becomes t u (filled_plain _ _ g) = becomes_plain t u (into_plain t u g)
+filled_becomes t u (filled_pointer _ _ p q) = to_pointer t u p q
+
+pub alike_becomes : (t u : StaticType) → AreAlike t u → Becomes t u
+alike_becomes t u a = becomes_plain t u (into_plain t u (fills_alike t u a))
+
+-- ---- arguments
+
+-- what is given to a parameter: it becomes the type at the call, which has the parameter's shape
+pub record Enters (from t p : StaticType) : Type 0 where
+  pub goes : Becomes from t
+  pub few : HasFew t
+  pub same : shape_of t ≡ shape_of p
+  pub worth : IsWorth p
+  pub other : IsNoRegion from
+
+abbrev pub AsksArgument : Bool → Where → StaticType → Expression → Type 0
+AsksArgument b w p e = Asks b ((is_region p || is_value true p) && (names_region w e || is_whole_expression true w e))
+
+entered : (from t p : StaticType) → Passes from t p → (is_region p || is_value true p) ≡ true → Enters from t p
+entered from _ _ (passes_plain _ p g) h =
+    let s = into_simple from p g in
+    record { goes = becomes_plain from p g; few = simple_few p s; same = refl; worth = worth_simple p s; other = goes_other from p g }
+entered from _ _ (passes_pointer _ k sp args brgs rs qs is same) h =
+    let l = leb-true (length rs) 4 (and_parts (nat_le (length rs) 4) _ h).0 in record {
+      goes = becomes_pointer from k sp brgs qs is;
+      few = omega (arith, l, same);
+      same = ap pointer same;
+      worth = worth_pointer k sp args rs l;
+      other = passes_other from _ _ (passes_pointer from k sp args brgs rs qs is same);
+    }
+
+-- a part isn't asked for, and no partition's name
+no_part : (w : Where) (p : StaticType) (e : Expression) (n : Name) (index : Expression) → e ≡ access_expr n (at_step index no_step) → IsCutName w n →
+    ((is_region p || is_value true p) && (names_region w e || is_whole_expression true w e)) ≡ true → ⊥
+no_part w p e n index is cut h = partition_no_region _ cut.partition
+    (and_parts _ _ (and_parts _ _ (subst (λ c. ((is_region p || is_value true p) && (names_region w c || is_whole_expression true w c)) ≡ true) is h)).1).0
+
+no_partition : (p : StaticType) (b : Bool) → IsPartition p → ((is_region p || is_value true p) && b) ≡ true → ⊥
+no_partition _ b (a_partition_type d r q) h = false≢true h
+
+-- what is given is a value that enters the parameter, or a region's name
+pub given_whole : (b : Bool) (o : Option Taking) (w : Where) (t p : StaticType) (e : Expression) (Typed Part Goal : Type 0) → AsksArgument b w p e →
+    (Enters (typed w e) t p → Typed → Goal) → ((y : Taking) → o ≡ Some y → IsHanded (Some y) w t p e → Goal) →
+    (PassesInto b (typed w e) t p × Typed) ⊎ (IsHanded o w t p e ⊎ IsHandedPart b o w t p e Part) → Goal
+given_whole false o w t p e Typed Part Goal asks this that (inl a) =
+    let s = alike_simple (typed w e) t a.0.0 in
+    this (record {
+      goes = alike_becomes (typed w e) t a.0.0;
+      few = simple_few t s;
+      same = ap shape_of a.0.1;
+      worth = subst IsWorth a.0.1 (worth_simple t s);
+      other = alike_other (typed w e) t a.0.0;
+    }) a.1
+given_whole false None w t p e Typed Part Goal asks this that (inr (inl h)) = absurd h
+given_whole false (Some y) w t p e Typed Part Goal asks this that (inr (inl h)) = that y refl h
+given_whole false o w t p e Typed Part Goal asks this that (inr (inr h)) = absurd h
+given_whole true o w t p e Typed Part Goal asks this that g = given_by true o w t p e Typed Part Goal
+    (λ q. this (entered (typed w e) t p q (and_parts _ _ (asks refl)).0)) that
+    (λ (a : IsPartArgument o w t p e Part). absurd (no_part w p e a.name a.index a.is a.cut (asks refl)))
+    (λ (a : IsCutArgument o w t p e). absurd (no_partition p _ a.partition (asks refl))) g
+
+-- no argument is a part of a name's partition
+pub no_part_at : (w : Where) (ps : List StaticType) (es : Expressions) (k : ℕ) (q : Name × Expression) → are_whole_arguments true w ps es ≡ true →
+    part_at es k ≡ Some q → IsCutName w q.0 → ⊥
+no_part_at w [] no_expr k q h e c = none-some q e
+no_part_at w [] (an_expr a es) k q h e c = false≢true h
+no_part_at w (p ∷ ps) no_expr k q h e c = none-some q e
+no_part_at w (p ∷ ps) (an_expr a es) zero q h e c = none_here a q (and_parts _ _ h).0 e c
+  where
+    none_here : (a : Expression) (q : Name × Expression) → ((is_region p || is_value true p) && (names_region w a || is_whole_expression true w a)) ≡ true →
+        part_of a ≡ Some q → IsCutName w q.0 → ⊥
+    none_here (access_expr n (at_step i no_step)) q h e c = no_part w p (access_expr n (at_step i no_step)) q.0 q.1
+        (ap (λ (x : Name × Expression). access_expr x.0 (at_step x.1 no_step)) (same_Some (n, i) q e)) c h
+    none_here (access_expr n no_step) q h e c = none-some q e
+    none_here (access_expr n (field_step f s)) q h e c = none-some q e
+    none_here (access_expr n (at_step i (field_step f s))) q h e c = none-some q e
+    none_here (access_expr n (at_step i (at_step f s))) q h e c = none-some q e
+    none_here (number_expr z v) q h e c = none-some q e
+    none_here (truth_expr b) q h e c = none-some q e
+    none_here (chain_expr first rest) q h e c = none-some q e
+    none_here (prefix_expr signs i) q h e c = none-some q e
+    none_here (call_expr task args) q h e c = none-some q e
+    none_here (convert_expr t i) q h e c = none-some q e
+    none_here (is_null_expr i) q h e c = none-some q e
+    none_here (null_expr t) q h e c = none-some q e
+    none_here (cast_expr t i) q h e c = none-some q e
+    none_here (space_expr k i) q h e c = none-some q e
+no_part_at w (p ∷ ps) (an_expr a es) (suc k) q h e c = no_part_at w ps es k q (and_parts _ _ h).1 e c
+
+-- what is needed is met by a region's name
+pub met_whole : (b : Bool) (o : Option Taking) (w : Where) (ps : List StaticType) (es : Expressions) (n : NeedCode) → Asks b (are_whole_arguments true w ps es) →
+    IsMetAt b o w es n → IsMet o w n (name_at es n.param)
+met_whole false o w ps es n h m = m
+met_whole true o w ps es n h (inl m) = m
+met_whole true o w ps es n h (inr m) = absurd (of_part o (part_at es n.param) refl m)
+  where
+    of_part : (o : Option Taking) (q : Option (Name × Expression)) → part_at es n.param ≡ q → IsMetPart o w n q → ⊥
+    of_part None q e m = m
+    of_part (Some y) None e m = m
+    of_part (Some y) (Some q) e m = no_part_at w ps es n.param q (h refl) e m.0
+
+-- a value that is no region's is no region's name
+pub whole_argument : (b : Bool) (w : Where) (p : StaticType) (e : Expression) → AsksArgument b w p e → IsNoRegion (typed w e) → Asks b (is_whole_expression true w e)
+whole_argument b w p e h other q = ⊎_elim (λ r. absurd (of_region e r other)) (λ s. s)
+    (or_cases (names_region w e) (is_whole_expression true w e) (and_parts _ _ (h q)).1)
+  where
+    no_other : (u : StaticType) → is_region u ≡ true → IsNoRegion u → ⊥
+    no_other (region_type k sp args r) e h = h
+    no_other _ e h = false≢true e
+
+    of_region : (e : Expression) → names_region w e ≡ true → IsNoRegion (typed w e) → ⊥
+    of_region (access_expr n no_step) r h = no_other _ r h
+    of_region _ r h = false≢true r
+
+-- ---- variables
+
+-- a simple value, or a pointer into regions that have names
+pub data IsKept : StaticType → Type 0 where
+  kept_simple : (u : StaticType) → IsSimple u → IsKept u
+  kept_pointer : (u : StaticType) → IsPointer u → IsKept u
+
+pub owned_same : (n : ℕ) (u : StaticType) → IsKept u → owned n u ≡ u
+owned_same n _ (kept_simple _ (simple_integer v)) = refl
+owned_same n _ (kept_simple _ simple_truth) = refl
+owned_same n _ (kept_simple _ (simple_space c)) = refl
+owned_same n _ (kept_simple _ (simple_index c)) = refl
+owned_same n _ (kept_pointer _ (a_pointer_type k sp args rs names)) = refl
+
+pub kept_of : (b : Bool) (w : Where) (e : Expression) → IsKeepable b w e → IsKept (typed w e)
+kept_of b w e h = ⊎_elim (λ s. kept_simple (typed w e) s) (λ p. kept_pointer (typed w e) p.0) (keepable b w e h)
+
+-- how a variable begins: with such a value, or a difference of partitions
+kept_no_cut : (t : StaticType) → IsKept t → is_partition t ≡ true → ⊥
+kept_no_cut _ (kept_simple _ (simple_integer w)) e = false≢true e
+kept_no_cut _ (kept_simple _ simple_truth) e = false≢true e
+kept_no_cut _ (kept_simple _ (simple_index k)) e = false≢true e
+kept_no_cut _ (kept_simple _ (simple_space k)) e = false≢true e
+kept_no_cut _ (kept_pointer _ (a_pointer_type k sp args rs names)) e = false≢true e
+
+pub begun_whole : (b : Bool) (w : Where) (e : Expression) (v : Bool) (Typed : Type 0) → IsBegun b w e (IsKeepable b w e × Typed) →
+    Asks b (is_partition (typed w e) || v) → ((IsKeepable b w e × Typed) × Asks b v) ⊎ ((b ≡ true) × IsDifference w e)
+begun_whole false w e v Typed p h = inl (p, not_kept false v refl)
+begun_whole true w e v Typed (inl p) h =
+    inl (p, λ q. ⊎_elim (λ c. absurd (kept_no_cut (typed w e) (kept_of true w e p.0) c)) (λ y. y) (or_cases (is_partition (typed w e)) v (h q)))
+begun_whole true w e v Typed (inr d) h = inr (refl, d)
+
+-- a variable of its value's type is worth it
+pub begun_worth : (b : Bool) (w : Where) (e : Expression) (n : ℕ) → IsKeepable b w e → Asks b (is_value true (owned n (typed w e))) → IsWorth (typed w e)
+begun_worth false w e n k h = worth_simple _ k
+begun_worth true w e n k h = subst IsWorth (owned_same n (typed w e) (kept_of true w e k)) (value_worth (owned n (typed w e)) (h refl))
+
+-- and goes into no part
+value_no_child : (t : StaticType) → is_value true t ≡ true → names_child (reaches_of t) ≡ false
+value_no_child (pointer_type k sp args rs) e = not-true (names_child rs) (and_parts (nat_le (length rs) 4) _ e).1
+value_no_child (integer_type w) e = refl
+value_no_child truth_type e = refl
+value_no_child (index_type k) e = refl
+value_no_child (ispace_type k) e = refl
+value_no_child (region_type k sp args r) e = refl
+value_no_child (partition_type d r p) e = refl
+value_no_child no_type e = refl
+value_no_child unknown_type e = refl
+
+pub begun_no_child : (b : Bool) (w : Where) (e : Expression) (n : ℕ) → IsKeepable b w e → Asks b (is_value true (owned n (typed w e))) →
+    names_child (reaches_of (typed w e)) ≡ false
+begun_no_child false w e n k h = simple_no_child (typed w e) k
+  where
+    simple_no_child : (t : StaticType) → IsSimple t → names_child (reaches_of t) ≡ false
+    simple_no_child _ (simple_integer v) = refl
+    simple_no_child _ simple_truth = refl
+    simple_no_child _ (simple_space c) = refl
+    simple_no_child _ (simple_index c) = refl
+begun_no_child true w e n k h =
+    subst (λ u. names_child (reaches_of u) ≡ false) (owned_same n (typed w e) (kept_of true w e k)) (value_no_child (owned n (typed w e)) (h refl))
+
+-- of a written type
+pub said_worth : (b : Bool) (bs : List Bound) (t u : StaticType) → BeginsWith b bs t u → Asks b (is_value true u) → IsWorth u
+said_worth false bs t u p h = worth_simple u (alike_simple t u p)
+said_worth true bs t u p h = value_worth u (h refl)
+
+pub zero_worth : (b : Bool) (bs : List Bound) (u : StaticType) → BeginsAs b bs u → Asks b (is_value true u) → IsWorth u
+zero_worth false bs u p h = worth_simple u (zero_simple u (zero_scalar u p))
+zero_worth true bs u p h = value_worth u (h refl)
+
+pub set_worth : (b : Bool) (t u : StaticType) → IsAssigned b t u → Asks b (is_value true u) → IsWorth u
+set_worth false t u p h = worth_simple u (alike_simple t u p)
+set_worth true t u p h = value_worth u (h refl)
+
+-- what a field keeps
+pub field_few : (k : FieldKind) (n : ℕ) (t : StaticType) → KeepsAs k n t → HasFew t
+field_few _ _ _ (keeps_plain _ _ _ fits_32) = omega arith
+field_few _ _ _ (keeps_plain _ _ _ fits_64) = omega arith
+field_few _ _ _ (keeps_plain _ _ _ fits_truth) = omega arith
+field_few _ _ _ (keeps_index _ k) = omega arith
+field_few _ _ _ (keeps_pointer k sp args rs names few) = few
+
+-- with what a field is filled
+pub filled_settled : (t u : StaticType) → Filled t u → Settled (shape_of t)
+filled_settled _ _ (filled_plain _ _ (fills_alike _ _ (two_integers v w))) = settled_number _ (numeric_integer v)
+filled_settled _ _ (filled_plain _ _ (fills_alike _ _ two_truths)) = settled_number _ numeric_truth
+filled_settled _ _ (filled_plain _ _ (fills_index _ k (number_integer v))) = settled_number _ (numeric_integer v)
+filled_settled _ _ (filled_plain _ _ (fills_index _ k (number_index i))) = settled_number _ numeric_index
+filled_settled _ _ (filled_pointer _ _ (a_pointer_type k sp args rs names) q) = settled_number _ (numeric_pointer _)

@@ -1,0 +1,66 @@
+-- An accepted program whose tasks keep indices and pointers, go over regions and are given pointers, so that the law on
+-- tasks that take no parts of partitions is a law of something.
+use Rattle.std.specs.Prelude.{[], ◌∷◌, pos}
+use Rattle.regent_tree.specs.Syntax.{assert_form, cast_expr, is_null_expr, null_expr, Tree}
+use Rattle.lane_kernels.specs.declared.numbers.Op.TheVariants.{Sum}
+use Rattle.regent_tree.specs.declared.expression.Comparison.TheVariants.{Equal}
+use Rattle.regent_tree.specs.declared.expression.Arithmetic.TheVariants.{Add}
+use Rattle.regent_tree.specs.declared.program.Grant.TheVariants.{Reads, Writes}
+use Rattle.regent_tree.specs.declared.types.Kind.TheVariants.{Int1d}
+use Rattle.regent_tree.specs.declared.types.NumberTerm.TheVariants.{Index, Int64}
+use Rattle.worked_examples.specs.Words.{access, at, calc, call, compare, dot, each, equal, field_space, fields, fill, get, grants, int, item, line, new_region, number, param, pointer, points_into, reduce, ref, region, set, space, space_of, task, var_as, var_from, when}
+use Rattle.sound_code.specs.Programs.{IsWholeProgramRun, LocalRunsSoundly}
+
+--     fspace f { x : int64, next : int1d }
+--     task follow(r : region(ispace(int1d), f), p : int1d(f, r))
+--     where reads writes(r.x), reads(r.next) do
+--       p.x = r[p.next].x + 1
+--       for q in r do q.x += 1 end
+--     end
+--     task main(n : int64)
+--       var r = region(ispace(int1d, 3), f)
+--       fill(r.x, n)
+--       var i : int1d = 1
+--       fill(r.next, i)
+--       i = i + 1
+--       r[0].next = i
+--       var p : int1d(f, r) = null(int1d(f, r))
+--       if isnull(p) then p = r[i] end
+--       follow(r, p)
+--       for q in r do p = dynamic_cast(int1d(f, r), q.next) end
+--       assert(p == r[1])
+--       var halves = partition(equal, r, ispace(int1d, 2))
+--       for c in halves.colors do i = c end
+--     end
+abbrev pub follows_program : Tree
+follows_program =
+    item 1 (field_space "f" [] (param 1 "x" (number Int64) ∷ param 1 "next" (number (Index Int1d)) ∷ []))
+    ∷ item 2
+    (task "follow" (param 2 "r" (region (space_of "f" [])) ∷ param 2 "p" (points_into (pointer (space_of "f" []) (ref "r" ∷ []))) ∷ [])
+    (grants (Reads ∷ Writes ∷ []) (fields "r" ("x" ∷ []) ∷ []) ∷ grants (Reads ∷ []) (fields "r" ("next" ∷ []) ∷ []) ∷ [])
+    (line 4 (set "p" (dot "x" ∷ []) (calc (access "r" (at (access "p" (dot "next" ∷ [])) ∷ dot "x" ∷ [])) Add (int 1)))
+    ∷ line 5 (each "q" (get "r") (line 5 (reduce "q" (dot "x" ∷ []) Sum (int 1)) ∷ []))
+    ∷ []))
+    ∷ item 7
+    (task "main" (param 7 "n" (number Int64) ∷ []) []
+    (line 8 (var_from "r" (new_region (space (int 3)) (space_of "f" [])))
+    ∷ line 9 (fill "r" ("x" ∷ []) (get "n"))
+    ∷ line 10 (var_as "i" (number (Index Int1d)) (int 1))
+    ∷ line 11 (fill "r" ("next" ∷ []) (get "i"))
+    ∷ line 12 (set "i" [] (calc (get "i") Add (int 1)))
+    ∷ line 13 (set "r" (at (int 0) ∷ dot "next" ∷ []) (get "i"))
+    ∷ line 14 (var_as "p" (points_into (pointer (space_of "f" []) (ref "r" ∷ []))) (null_expr (pointer (space_of "f" []) (ref "r" ∷ []))))
+    ∷ line 15 (when (is_null_expr (get "p")) (line 15 (set "p" [] (access "r" (at (get "i") ∷ []))) ∷ []))
+    ∷ line 16 (call "follow" (get "r" ∷ get "p" ∷ []))
+    ∷ line 17 (each "q" (get "r")
+    (line 17 (set "p" [] (cast_expr (pointer (space_of "f" []) (ref "r" ∷ [])) (access "q" (dot "next" ∷ [])))) ∷ []))
+    ∷ line 18 (assert_form (compare (get "p") Equal (access "r" (at (int 1) ∷ []))))
+    ∷ line 19 (var_from "halves" (equal "r" (space (int 2))))
+    ∷ line 20 (each "c" (access "halves" (dot "colors" ∷ [])) (line 20 (set "i" [] (get "c")) ∷ []))
+    ∷ []))
+    ∷ []
+
+-- each premise of the law holds of it, and so it runs soundly
+pub record WholeExampleHolds : Type 0 where
+  pub run : IsWholeProgramRun follows_program (pos 2 ∷ [])
+  pub sound : LocalRunsSoundly follows_program (pos 2 ∷ [])
