@@ -4,8 +4,6 @@
 mod builder;
 mod places;
 mod plane;
-#[cfg(test)]
-mod tests;
 mod windows;
 mod words;
 

@@ -14,8 +14,6 @@ mod number;
 mod parser;
 mod read;
 mod said;
-#[cfg(test)]
-mod tests;
 
 pub use commands::{
     Command, MOST_COLOURS, MOST_TURNS, MOST_WORKERS, Run, turns_or_default, workers_or_default,

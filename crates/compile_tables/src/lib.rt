@@ -5,8 +5,6 @@
 mod needs;
 mod parts;
 mod spaces;
-#[cfg(test)]
-mod tests;
 mod used;
 
 pub use needs::declared_needs;

@@ -9,8 +9,6 @@ mod closure;
 mod question;
 mod raising;
 mod row;
-#[cfg(test)]
-mod tests;
 
 pub use closure::Facts;
 pub use regent_tree::{Colour, Known, Term};

@@ -5,8 +5,6 @@
 
 mod points;
 mod shape;
-#[cfg(test)]
-mod tests;
 mod view;
 
 pub use points::{LaunchArg, PointArg, points_of};

@@ -7,8 +7,6 @@ mod masked;
 mod numbers;
 mod pair_test;
 mod pairing;
-#[cfg(test)]
-mod tests;
 mod update;
 mod word_operator;
 

@@ -3,8 +3,6 @@
 
 mod ran;
 mod run;
-#[cfg(test)]
-mod tests;
 
 pub use ran::Ran;
 pub use run::run_job;

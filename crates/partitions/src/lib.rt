@@ -18,6 +18,3 @@ pub use pairwise::{both, either_of, without};
 
 /// How many colours a partition may have at most.
 pub const COLOUR_LIMIT: u32 = 65_536;
-
-#[cfg(test)]
-mod tests;

@@ -88,13 +88,15 @@ impl Fill {
         })
     }
 
-    pub(crate) fn root(&self) -> RootId
+    /// The root whose points it gathers.
+    pub fn root(&self) -> RootId
         ensures { result.0 ≡ self.now.root }
     {
         self.root
     }
 
-    pub(crate) fn field(&self) -> u8
+    /// The field whose numbers it gathers.
+    pub fn field(&self) -> u8
         ensures { result ≡ self.now.field }
     {
         self.field

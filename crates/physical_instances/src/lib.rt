@@ -13,8 +13,6 @@ mod folding;
 mod instances;
 mod marks;
 mod roots;
-#[cfg(test)]
-mod tests;
 
 pub use contents::Contents;
 pub use copying::copy_part;

@@ -260,6 +260,3 @@ impl PointSet {
         true
     }
 }
-
-#[cfg(test)]
-mod tests;

@@ -6,8 +6,6 @@ mod names;
 mod params;
 mod table;
 mod tables;
-#[cfg(test)]
-mod tests;
 
 pub use copies::copy_name;
 pub use names::Names;

@@ -10,6 +10,3 @@ pub use lexing::terminals;
 pub use nesting::first_too_deep;
 pub use regent_lex::{Mark, Word};
 pub use symbol::{Symbol, Terminal};
-
-#[cfg(test)]
-mod tests;

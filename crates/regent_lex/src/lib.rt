@@ -28,6 +28,3 @@ pub use lex::tokens;
 pub use tables::{Mark, Word, mark_of, word_of};
 pub use token::{Token, TokenKind, spelling};
 pub use values::{has_suffix, number_value, quoted_bytes};
-
-#[cfg(test)]
-mod tests;

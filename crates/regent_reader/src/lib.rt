@@ -4,8 +4,6 @@
 mod fault;
 mod items;
 mod reading;
-#[cfg(test)]
-mod tests;
 pub mod theorems;
 
 pub use fault::ReadFault;

@@ -18,8 +18,6 @@ mod program;
 mod requests;
 mod running;
 mod served;
-#[cfg(test)]
-mod tests;
 mod text;
 mod verdict;
 

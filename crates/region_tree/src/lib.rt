@@ -17,8 +17,6 @@ mod required;
 mod required_part;
 mod required_within;
 mod sweep;
-#[cfg(test)]
-mod tests;
 mod tree;
 
 pub use content::Node;

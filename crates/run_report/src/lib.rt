@@ -6,8 +6,6 @@
 mod dump;
 mod fault;
 mod fitting;
-#[cfg(test)]
-mod tests;
 mod values;
 
 pub use dump::dump_text;

@@ -8,6 +8,3 @@ mod job;
 pub use code::{Code, FieldCode, Line, NeedCode, SpaceCode, TaskCode};
 pub use instr::{Instr, PrintPart};
 pub use job::Job;
-
-#[cfg(test)]
-mod tests;

@@ -10,8 +10,6 @@ mod desk;
 mod finishing;
 mod giving;
 mod opening;
-#[cfg(test)]
-mod tests;
 
 pub use answers::{Copied, Given};
 pub use board::Board;

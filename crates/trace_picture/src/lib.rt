@@ -9,8 +9,6 @@ mod marks;
 mod parts;
 mod picture;
 mod styles;
-#[cfg(test)]
-mod tests;
 mod verdict;
 mod view;
 

@@ -4,8 +4,6 @@
 
 mod gate;
 mod pair;
-#[cfg(test)]
-mod tests;
 mod worker;
 
 pub use gate::{Gate, OpenGate};

@@ -1,0 +1,13 @@
+//! Boards, gates, workers in threads, and jobs that they run.
+//!
+//! They stand in a crate of their own so that a crate is proved once, without its tests.
+#![tactic(auto)]
+
+#[cfg(test)]
+mod boards;
+#[cfg(test)]
+mod gates;
+#[cfg(test)]
+mod parallel;
+#[cfg(test)]
+mod workers;

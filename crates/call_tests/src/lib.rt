@@ -1,0 +1,13 @@
+//! Sources and sinks, words, pictures, and whole calls, over sources and sinks that fail.
+//!
+//! They stand in a crate of their own so that a crate is proved once, without its tests.
+#![tactic(auto)]
+
+#[cfg(test)]
+mod calls;
+#[cfg(test)]
+mod pictures;
+#[cfg(test)]
+mod sources;
+#[cfg(test)]
+mod words;

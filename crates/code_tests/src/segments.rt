@@ -1,0 +1,226 @@
+//! Segments of code by hand, which the machine runs with memory at hand.
+
+ghost use Rattle.std.specs.Prelude.{◌<◌};
+
+use crate::runs::lines;
+use index_spaces::Ispace;
+use lane_kernels::{FieldKind, Mode, Width};
+use plain_values::{Sequence, Shared};
+use point_sets::PointSet;
+use regent_tree::{Fault, FaultKind};
+use region_tree::{Need, Needs, Node, Part, Piece, RootId};
+use std::alloc::{AllocError, Global};
+use std::test::Fail;
+use task_code::{Code, Instr, Line, PrintPart, TaskCode};
+use task_machine::{
+    After, Before, Frame, PartitionValue, RegionValue, Stack, Value, Yield, run, run_segment,
+};
+
+const ROOT: RootId = RootId(0);
+
+const NODE: Node = Node(0);
+
+/// Code of one task.
+fn code(alloc: Global, slots: u32, body: Sequence<Line>) -> Result<Code, AllocError> {
+    let mut tasks = Sequence::new(alloc);
+    tasks.push(TaskCode {
+        params: 0,
+        result: false,
+        needs: Sequence::new(alloc),
+        slots,
+        body,
+    })?;
+    Ok(Code {
+        tasks,
+        spaces: Sequence::new(alloc),
+        start: 0,
+    })
+}
+
+/// The first five points of a root.
+fn region(alloc: Global) -> Result<RegionValue, AllocError> {
+    Ok(RegionValue {
+        root: ROOT,
+        node: NODE,
+        points: Shared::new(alloc, PointSet::range(alloc, 0, 5)?)?,
+    })
+}
+
+/// A partition of the region in one.
+fn partition(alloc: Global) -> Result<Value, AllocError> {
+    let mut children = Sequence::new(alloc);
+    children.push(region(alloc)?)?;
+    Ok(Value::Partition(PartitionValue {
+        root: ROOT,
+        disjoint: true,
+        children: Shared::new(alloc, children)?,
+    }))
+}
+
+/// Slots with the region and the partition.
+fn regions(alloc: Global) -> Result<Sequence<Value>, AllocError> {
+    let mut slots = Sequence::new(alloc);
+    slots.push(Value::Region(region(alloc)?))?;
+    slots.push(partition(alloc)?)?;
+    Ok(slots)
+}
+
+/// Slots with a value of each kind, and then the number 0.
+fn slots(alloc: Global) -> Result<Sequence<Value>, AllocError> {
+    let mut slots = regions(alloc)?;
+    if let Ok(space) = Ispace::line(3) {
+        slots.push(Value::Space(space))?;
+    }
+    slots.push(Value::Pending(7))?;
+    slots.push(Value::Number(0))?;
+    Ok(slots)
+}
+
+/// A frame that writes field 0 of the root.
+fn frame(alloc: Global, turns: u64) -> Result<Frame, AllocError> {
+    let need = Need {
+        root: ROOT,
+        node: NODE,
+        field: 0,
+        mode: Mode::Write,
+    };
+    Ok(Frame {
+        task: 0,
+        pc: 0,
+        slots: slots(alloc)?,
+        stack: Stack::new(alloc),
+        turns,
+        depth: 1,
+        needs: Needs {
+            items: Sequence::from_slice(alloc, &[need])?,
+        },
+        own: Sequence::new(alloc),
+        children: 0,
+        later: None,
+    })
+}
+
+/// The part for the field, with 10 at each point.
+fn part(alloc: Global) -> Result<Part, AllocError> {
+    let mut pieces = Sequence::new(alloc);
+    pieces.push(Piece {
+        points: PointSet::range(alloc, 0, 5)?,
+        mode: Mode::Write,
+        values: Sequence::from_slice(alloc, &[10, 10, 10, 10, 10])?,
+    })?;
+    Ok(Part {
+        root: ROOT,
+        field: 0,
+        kind: FieldKind::Int64,
+        pieces,
+    })
+}
+
+fn parts(alloc: Global) -> Result<Sequence<Part>, AllocError> {
+    let mut parts = Sequence::new(alloc);
+    parts.push(part(alloc)?)?;
+    Ok(parts)
+}
+
+/// What a body leaves, on the part.
+fn left_by<const N: usize>(alloc: Global, turns: u64, body: [Instr; N]) -> Result<After, AllocError>
+    requires { N < 1000 }
+{
+    let body = lines(alloc, body)?;
+    let code = code(alloc, 5, body)?;
+    let parts = parts(alloc)?;
+    let frame = frame(alloc, turns)?;
+    run(alloc, &code, frame, parts)
+}
+
+/// The print of a number with an exclamation mark.
+fn exclaimed(alloc: Global) -> Result<Instr, AllocError> {
+    let end = Sequence::from_slice(alloc, b"!\n")?;
+    let mut parts = Sequence::new(alloc);
+    parts.push(PrintPart::Number)?;
+    parts.push(PrintPart::Text(end))?;
+    Ok(Instr::Print(parts))
+}
+
+#[test]
+fn numbers_are_computed_and_printed(rt: HostRuntime) -> Result<(), Fail> {
+    let alloc = rt.alloc();
+    let print = exclaimed(alloc)?;
+    let after = left_by(
+        alloc,
+        0,
+        [
+            Instr::Num(-7),
+            Instr::Num(2),
+            Instr::Div(Width::W64),
+            print,
+            Instr::Return,
+        ],
+    )?;
+    assert!(rt; *after.text.as_slice() == *b"-3!\n".as_slice());
+    assert!(rt; matches!(after.ends, Yield::End(None)));
+    assert!(rt; after.frame.is_none());
+    Ok(())
+}
+
+#[test]
+fn values_of_each_kind_are_loaded(rt: HostRuntime) -> Result<(), Fail> {
+    let alloc = rt.alloc();
+    for slot in [0, 1, 2, 4] {
+        let after = left_by(alloc, 0, [Instr::Load(slot), Instr::Drop, Instr::Return])?;
+        assert!(rt; matches!(after.ends, Yield::End(None)), "{slot}");
+    }
+    Ok(())
+}
+
+#[test]
+fn a_pending_value_is_awaited(rt: HostRuntime) -> Result<(), Fail> {
+    let alloc = rt.alloc();
+    let awaits = left_by(alloc, 0, [Instr::Load(3)])?;
+    assert!(rt; matches!(awaits.ends, Yield::Await(7)));
+    assert_eq!(rt; awaits.frame.map(|frame| frame.pc), Some(0));
+    Ok(())
+}
+
+#[test]
+fn turns_run_out(rt: HostRuntime) -> Result<(), Fail> {
+    let alloc = rt.alloc();
+    let turns = left_by(alloc, 1, [Instr::Turn, Instr::Turn])?;
+    let fault = Fault {
+        kind: FaultKind::Turns,
+        line: 2,
+    };
+    assert!(rt; matches!(turns.ends, Yield::Fault(told) if told == fault));
+    Ok(())
+}
+
+/// A task that stores a number.
+fn storing(alloc: Global) -> Result<Shared<Code>, AllocError> {
+    let body = lines(alloc, [Instr::Num(3), Instr::Store(4), Instr::Return])?;
+    let code = code(alloc, 5, body)?;
+    Shared::new(alloc, code)
+}
+
+fn before(alloc: Global) -> Result<Shared<Before>, AllocError> {
+    let code = storing(alloc)?;
+    let frame = frame(alloc, 0)?;
+    let parts = parts(alloc)?;
+    Shared::new(alloc, Before { code, frame, parts })
+}
+
+#[test]
+fn a_segment_leaves_what_it_ran_from(rt: HostRuntime) -> Result<(), Fail> {
+    let alloc = rt.alloc();
+    let ran = run_segment(alloc, before(alloc)?)?;
+    assert!(rt; matches!(ran.after().ends, Yield::End(None)));
+    assert_eq!(rt; ran.before().get().parts.len(), 1);
+    assert!(rt;
+        matches!(
+            ran.before().get().frame.slots.as_slice().get(4),
+            Some(Value::Number(0))
+        )
+    );
+    let after = ran.into_after();
+    assert_eq!(rt; after.parts.len(), 1);
+    Ok(())
+}

@@ -1,5 +1,0 @@
-use Rattle.region_tree.specs.Trees.{IsRegion}
-use Rattle.region_tree.proofs.tests.a_tree_of_depth_20.Given as goal
-
-abbrev pub invariant-loop : goal.invariant-loop
-invariant-loop g l = IsRegion l.tree l.region.0

@@ -1,5 +1,0 @@
-use Rattle.region_tree.specs.Needs.{AreNeeds}
-use Rattle.region_tree.proofs.tests.needs_of.Given as goal
-
-abbrev pub invariant-loop-field : goal.invariant-loop-field
-invariant-loop-field l = AreNeeds l.tree l.items

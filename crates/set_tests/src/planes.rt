@@ -1,0 +1,182 @@
+//! Small planes against lists by hand, the edges of words, and planes of all even and all third points.
+
+ghost use Rattle.std.specs.Prelude.{◌*◌, ◌<◌, ◌≤◌};
+ghost use Rattle.plain_values.specs.Points.{IsPoints};
+
+use bit_planes::{Plane, PlaneBuilder, WORD_LIMIT};
+use std::alloc::{AllocError, Global};
+
+/// How many points there are.
+const LIMIT: u32 = 4_194_304;
+
+/// The points from one to below another.
+fn range(alloc: Global, start: u32, end: u32) -> Result<Plane, AllocError> {
+    if start >= end || end > LIMIT {
+        return PlaneBuilder::new(alloc, 0, 0)?.finish();
+    }
+    let mut builder = PlaneBuilder::new(alloc, start, end - 1)?;
+    builder.set_range(start, end);
+    builder.finish()
+}
+
+/// The union of ranges.
+fn made(alloc: Global, ranges: &[(u32, u32)]) -> Result<Plane, AllocError> {
+    let mut plane = range(alloc, 0, 0)?;
+    for (start, end) in ranges {
+        plane = plane.union(&range(alloc, *start, *end)?)?;
+    }
+    Ok(plane)
+}
+
+/// Every so many-th point from 0 on.
+fn every(alloc: Global, step: u32) -> Result<Plane, AllocError>
+    requires some { 0 < step }
+    requires few { step ≤ 100 }
+{
+    let mut builder = PlaneBuilder::new(alloc, 0, LIMIT - 1)?;
+    let mut point = 0;
+    while point < LIMIT {
+        builder.set_range(point, point + 1);
+        point += step;
+    }
+    builder.finish()
+}
+
+/// Whether a plane has these points, each at its place.
+fn has_points(alloc: Global, plane: &Plane, want: &[u32]) -> Result<bool, AllocError> {
+    let mut points = Vec::new(alloc);
+    for place in 0..plane.len() {
+        if let Some(point) = plane.at(place) {
+            if plane.has(point) && plane.place_of(point) == Some(place) {
+                points.push(point)?;
+            }
+        }
+    }
+    Ok(points.as_slice() == want)
+}
+
+/// How many points either of two planes has, both have, and the first alone has.
+fn sizes(a: &Plane, b: &Plane) -> Result<[u32; 3], AllocError> {
+    let either = a.union(b)?;
+    let both = a.meet(b)?;
+    let rest = a.minus(b)?;
+    Ok([either.len(), both.len(), rest.len()])
+}
+
+#[test]
+fn small_planes(rt: HostRuntime) -> Result<(), AllocError> {
+    let alloc = rt.alloc();
+    let rows: [(&[(u32, u32)], &[(u32, u32)], &[u32], &[u32], &[u32]); 9] = [
+        (&[], &[], &[], &[], &[]),
+        (&[], &[(2, 5)], &[2, 3, 4], &[], &[]),
+        (&[(2, 5)], &[], &[2, 3, 4], &[], &[2, 3, 4]),
+        (&[(1, 2), (4, 5)], &[(2, 5)], &[1, 2, 3, 4], &[4], &[1]),
+        (
+            &[(62, 66)],
+            &[(64, 70)],
+            &[62, 63, 64, 65, 66, 67, 68, 69],
+            &[64, 65],
+            &[62, 63],
+        ),
+        (
+            &[(0, 1), (64, 65), (128, 129)],
+            &[(64, 65)],
+            &[0, 64, 128],
+            &[64],
+            &[0, 128],
+        ),
+        (&[(127, 129)], &[(127, 128)], &[127, 128], &[127], &[128]),
+        (&[(5, 6)], &[(200, 201)], &[5, 200], &[], &[5]),
+        (
+            &[(4_194_302, 4_194_304)],
+            &[(4_194_303, 4_194_304)],
+            &[4_194_302, 4_194_303],
+            &[4_194_303],
+            &[4_194_302],
+        ),
+    ];
+    for (left, right, either, both, rest) in rows {
+        let a = made(alloc, left)?;
+        let b = made(alloc, right)?;
+        assert!(rt; has_points(alloc, &a.union(&b)?, either)?, "{either:?}");
+        assert!(rt; has_points(alloc, &a.meet(&b)?, both)?, "{both:?}");
+        assert!(rt; has_points(alloc, &a.minus(&b)?, rest)?, "{rest:?}");
+        assert_eq!(rt; a.meets(&b), !both.is_empty());
+        assert_eq!(rt; a.within(&b), rest.is_empty());
+    }
+    Ok(())
+}
+
+/// The plane of a list.
+fn of_list(alloc: Global, points: &[u32]) -> Result<Plane, AllocError>
+    requires { IsPoints (64 * WORD_LIMIT) points.now }
+{
+    Plane::from_sorted(alloc, points)
+}
+
+#[test]
+fn lists_and_words(rt: HostRuntime) -> Result<(), AllocError> {
+    let alloc = rt.alloc();
+    let plane = of_list(alloc, &[3, 63, 64, 200])?;
+    let rest = plane.minus(&made(alloc, &[(0, 65)])?)?.copy()?;
+    assert!(rt; has_points(alloc, &plane, &[3, 63, 64, 200])?);
+    assert!(rt; has_points(alloc, &rest, &[200])?);
+    let none = of_list(alloc, &[])?;
+    let rows = [(&plane, 4, 3), (&rest, 1, 1), (&none, 0, 0)];
+    for (set, words, stretches) in rows {
+        assert_eq!(rt; (set.words(), set.stretches()), (words, stretches));
+    }
+    let from = [
+        (0, Some(3..4)),
+        (4, Some(63..65)),
+        (64, Some(64..65)),
+        (65, Some(200..201)),
+        (201, None),
+    ];
+    for (point, stretch) in from {
+        assert_eq!(rt; plane.stretch_from(point), stretch);
+    }
+    Ok(())
+}
+
+#[test]
+fn even_and_third_points(rt: HostRuntime) -> Result<(), AllocError> {
+    let alloc = rt.alloc();
+    let even = every(alloc, 2)?;
+    let third = every(alloc, 3)?;
+    assert_eq!(rt;
+        [even.len(), third.len(), even.stretches()],
+        [2_097_152, 1_398_102, 2_097_152]
+    );
+    assert_eq!(rt; sizes(&even, &third)?, [2_796_203, 699_051, 1_398_101]);
+    assert_eq!(rt; [even.meets(&third), even.within(&third)], [true, false]);
+    assert_eq!(rt;
+        [even.at(1_000_000), even.at(2_097_152)],
+        [Some(2_000_000), None]
+    );
+    assert_eq!(rt;
+        [even.place_of(4_194_302), even.place_of(3)],
+        [Some(2_097_151), None]
+    );
+    Ok(())
+}
+
+#[test]
+fn all_points(rt: HostRuntime) -> Result<(), AllocError> {
+    let alloc = rt.alloc();
+    let all = range(alloc, 0, LIMIT)?;
+    let even = every(alloc, 2)?;
+    let odd = all.minus(&even)?;
+    assert_eq!(rt;
+        (all.len(), all.words(), all.stretches()),
+        (LIMIT, 65_536, 1)
+    );
+    assert_eq!(rt; sizes(&odd, &even)?, [LIMIT, 0, 2_097_152]);
+    assert_eq!(rt;
+        [odd.meets(&even), odd.within(&all), all.within(&odd)],
+        [false, true, false]
+    );
+    assert_eq!(rt; all.stretch_from(100), Some(100..LIMIT));
+    assert_eq!(rt; all.has(LIMIT), false);
+    Ok(())
+}
