@@ -22,7 +22,7 @@ use Rattle.board_terms.specs.declared.claim.Claim.{Claim as FillClaim}
 use Rattle.board_terms.specs.declared.operation.Activity.TheVariants as activity
 use Rattle.board_terms.specs.Claims.{taken_back}
 use Rattle.board_terms.specs.Outcomes.{outcome, result}
-use Rattle.board_terms.specs.Replays.{replay, replay_from, step_of}
+use Rattle.board_terms.specs.Replays.{replay, replay_from, step_of, stepped}
 use Rattle.board_terms.specs.Stages.{has_finished, is_over, may_be_claimed, stage_at}
 use Rattle.board_terms.specs.States.{State, opened, opened_with, operation_at, void_state, with_main}
 use Rattle.board_trees.specs.Shows.{ShowsBoard}
@@ -33,12 +33,12 @@ use Rattle.journal_progress.specs.Claims.{IsAsBefore, SomeMayBeClaimed, TakenBac
 use Rattle.journal_progress.specs.Laws.{NoneInProgressInterfere, UnfinishedAreListed}
 use Rattle.journal_progress.specs.Parts.{MovedFromMap, HeldPartsAreApart}
 use Rattle.journal_progress.proofs.Backs.{as_before, back_goes, is_claimed, replay_both, was_ready}
-use Rattle.journal_progress.proofs.Ended.{ended_hold_none}
 use Rattle.journal_progress.proofs.Filled.{filled_from_map}
 use Rattle.journal_progress.proofs.Parts.{held_apart}
 use Rattle.journal_progress.proofs.Places.{is_listed}
 use Rattle.journal_progress.proofs.Progress.{none_interfere, not_over}
 use Rattle.journal_progress.proofs.Ready.{some_ready}
+use Rattle.journal_progress.proofs.Steps.{AllHoldApart, OpenHoldApart, no_child, step_apart}
 use Rattle.journal_progress.proofs.Waited.{goes_on, idles, stands_parked, within}
 
 module _ (job : Job) where
@@ -153,11 +153,51 @@ taken_back_as_before job journal s t k seat n e f = ⊎_elim (λ p. by_board p.1
           as_before job s k seat inside (idles job s b h k seat ready) (goes_on job s b h k seat ready) (stands_parked job s b h k seat ready) ready t claim,
         )
 
+-- ---- parts
+
+module _ (job : Job) where
+  -- what is claimed or parked holds its parts apart, by the tree
+  open_apart : (journal : List Entry) (s : State) → replay job journal ≡ Some s → OpenHoldApart s
+  open_apart journal s e k goes x listed child still = ⊎_elim
+      (λ p. held_apart job s p.1.board p.1.shows (jobs_held_apart job p.0 p.1.steps p.1.board p.1.made) (jobs_issued_needed job p.0 p.1.steps p.1.board p.1.made)
+      k goes x listed child still)
+      (λ q. absurd (void_children k x.op (subst (λ z. Contains (operation_at z k).children x.op) (sym q) child))) (is_pictured job journal s e)
+
+  one_more : (journal : List Entry) (s : State) → replay job journal ≡ Some s → (x : Entry) (u : State) → stepped job s x ≡ Some u → replay job (journal ++ x ∷ []) ≡ Some u
+  one_more journal s e x u q = replay_both job journal (x ∷ []) (Some (opened job)) ∙ ap (λ o. replay_from job o (x ∷ [])) e ∙ q
+
+  apart_behind : (journal : List Entry) (s : State) → replay job journal ≡ Some s → AllHoldApart s → (x : Entry) (u : State) → stepped job s x ≡ Some u → AllHoldApart u
+  apart_behind journal s e all x u q = ⊎_elim
+      (λ p. step_apart job s p.1.board p.1.shows x.op.0 all x.seat x.kind u q (open_apart (journal ++ x ∷ []) u (one_more journal s e x u q)))
+      (λ v. absurd (none-some u (sym (ap (λ z. stepped job z x) (sym v) ∙ void_refuses job x.kind x.op.0 x.seat) ∙ q))) (is_pictured job journal s e)
+
+  all_apart : (es journal : List Entry) (s : State) → replay job journal ≡ Some s → AllHoldApart s → (t : State) → replay_from job (Some s) es ≡ Some t → AllHoldApart t
+  all_apart [] journal s e all t q = subst AllHoldApart (same_Some s t q) all
+  all_apart (x ∷ es) journal s e all t q = by_step (stepped job s x) refl q
+      (λ u r p. all_apart es (journal ++ x ∷ []) u (one_more journal s e x u r) (apart_behind journal s e all x u r) t p)
+    where
+      by_step : (o : Option State) → stepped job s x ≡ o → replay_from job o es ≡ Some t →
+          ((u : State) → stepped job s x ≡ Some u → replay_from job (Some u) es ≡ Some t → AllHoldApart t) → AllHoldApart t
+      by_step None r p more = absurd (none-some t (sym (no_replay job es) ∙ p))
+      by_step (Some u) r p more = more u r p
+
+  -- at the start nothing was called
+  start_childless : (o : Option TaskCode) (k : ℕ) → (operation_at (opened_with job o) k).children ≡ []
+  start_childless None zero = refl
+  start_childless None (suc k) = refl
+  start_childless (Some t) k = chosen (may_start job t) k
+    where
+      chosen : (b : Bool) (j : ℕ) → (operation_at (cond b (with_main (first_frame job t)) void_state) j).children ≡ []
+      chosen true zero = refl
+      chosen true (suc j) = refl
+      chosen false zero = refl
+      chosen false (suc j) = refl
+
+  start_apart : AllHoldApart (opened job)
+  start_apart k x listed child still = absurd (no_child x.op (subst (λ ks. Contains ks x.op) (start_childless (slice_get job.code.tasks job.code.start) k) child))
+
 pub held_parts_are_apart : HeldPartsAreApart
-held_parts_are_apart job journal s e k goes x listed child still = ⊎_elim
-    (λ p. held_apart job s p.1.board p.1.shows (jobs_held_apart job p.0 p.1.steps p.1.board p.1.made) (jobs_issued_needed job p.0 p.1.steps p.1.board p.1.made)
-    k (ended_hold_none job journal s e k) goes x listed child still)
-    (λ q. absurd (void_children k x.op (subst (λ z. Contains (operation_at z k).children x.op) (sym q) child))) (is_pictured job journal s e)
+held_parts_are_apart job journal s e = all_apart job journal [] (opened job) refl (start_apart job) s e
 
 pub moved_from_map : MovedFromMap
 moved_from_map job journal s e k claim fill does = ⊎_elim

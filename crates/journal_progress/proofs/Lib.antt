@@ -4,7 +4,9 @@ mod Callers
 mod Places
 mod Progress
 mod Backs
-mod Ended
+mod Kept
+mod Given
+mod Steps
 mod Pieces
 mod Parts
 mod Filled

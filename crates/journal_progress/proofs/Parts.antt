@@ -2,8 +2,8 @@
 use Rattle.std.proofs.Common.{List, None, Option, Some, [], ap, arith, cond, eqb-true, false, length, map, option_map, refl, subst, suc, sym, true, zero, ℕ, ℤ, ⊎_elim, ◌++◌, ◌<◌, ◌==◌, ◌||◌, ◌∙◌, ◌∷◌, ◌≡◌}
 use Rattle.std.specs.Prelude.{All, drop, slice_get, take}
 use Rattle.std.specs.List.{Contains, flat_map, list_any}
-use Rattle.std.proofs.lemmas.Bool.{and_parts, cases_lt, false≢true}
-use Rattle.std.proofs.lemmas.List.{get_or_past, map-append, take-append-drop}
+use Rattle.std.proofs.lemmas.Bool.{and_parts, false≢true, true≢false}
+use Rattle.std.proofs.lemmas.List.{map-append, take-append-drop}
 use Rattle.std.proofs.lemmas.List.Elements.{All-append, All-cons, All-contains, All-head, All-nil, All-tail}
 use Rattle.std.proofs.Math.Bool.{or-false}
 use Rattle.lane_kernels.specs.declared.numbers.Mode.{Mode as FieldMode}
@@ -34,13 +34,10 @@ use Rattle.code_boards.specs.Laws.{machine_of}
 use Rattle.code_boards.specs.Pieces.{all_elements, elements}
 use Rattle.code_boards.specs.Views.{mode_in, spaces_of}
 use Rattle.board_terms.specs.declared.operation.Activity.{Activity}
-use Rattle.board_terms.specs.declared.operation.Activity.TheVariants as activity
-use Rattle.board_terms.specs.declared.operation.Ending.{Ending}
-use Rattle.board_terms.specs.declared.operation.Operation.{Operation}
 use Rattle.board_terms.specs.Closings.{all_over}
 use Rattle.board_terms.specs.Claims.{filled_parts, part_filled}
-use Rattle.board_terms.specs.Stages.{is_over, stage_at}
-use Rattle.board_terms.specs.States.{State, no_operation, operation_at}
+use Rattle.board_terms.specs.Stages.{is_closing, is_over, stage_at, stage_of}
+use Rattle.board_terms.specs.States.{State, operation_at}
 use Rattle.board_trees.specs.Frames.{IsHeld, IsSeen}
 use Rattle.board_trees.specs.Names.{named, pointed, requirement_named}
 use Rattle.board_trees.specs.Shows.{Shows, ShowsBoard}
@@ -48,21 +45,13 @@ use Rattle.board_trees.specs.Stages.{Fills, IsFilled}
 use Rattle.board_trees.proofs.Settled.{node_told}
 use Rattle.claimed_trees.proofs.Moved.{spots_both}
 use Rattle.changed_trees.proofs.Interfere.{interfere_pointed}
-use Rattle.journal_progress.specs.Parts.{IsStopped, held_for, held_in, parts_held, parts_with}
+use Rattle.journal_progress.specs.Parts.{held_for, held_in, parts_held, parts_with}
 use Rattle.journal_progress.proofs.Callers.{ChildAt, WereMade, child_at, find_behind, place_of}
-use Rattle.journal_progress.proofs.Ended.{HoldsNone}
 use Rattle.journal_progress.proofs.Needs.{apart_needs}
 use Rattle.journal_progress.proofs.Pieces.{Clear, PartClear, ElementClear, at_point, clear_apart, grouped_clear, held_mode, pieces_clear}
-use Rattle.journal_progress.proofs.Places.{Placed, entry_needs, name, naming, placed, still_listed}
+use Rattle.journal_progress.proofs.Places.{Placed, entry_needs, has_children, name, naming, placed, still_listed}
 
 -- ---- children
-
--- one that has children was issued
-has_children : (s : State) (k : ℕ) (o : OpNumber) → Contains (operation_at s k).children o → k < length s.operations
-has_children s k o c = ⊎_elim (λ l. l) (λ l. absurd (none (subst (λ (x : Operation). Contains x.children o) (get_or_past s.operations k no_operation l) c))) (cases_lt k (length s.operations))
-  where
-    none : Contains [] o → ⊥
-    none c = omega (arith, c.1)
 
 -- where all are over, each is
 over_child : (s : State) (ks : List OpNumber) (o : OpNumber) → Contains ks o → all_over s ks ≡ true → is_over (stage_at s o.0) ≡ true
@@ -161,10 +150,10 @@ module _ (job : Job) where
 
     -- ---- an operation and its child
 
-    module _ (held : HeldIsApart G b) (issued : IssuedIsNeeded G b) (k : ℕ) (ended : HoldsNone (operation_at s k)) (goes : ¬ IsStopped s k) (x : Listed) (listed : Contains s.waits.listing x)
+    module _ (held : HeldIsApart G b) (issued : IssuedIsNeeded G b) (k : ℕ) (goes : is_closing (stage_at s k) ≡ false) (x : Listed) (listed : Contains s.waits.listing x)
         (is_child : Contains (operation_at s k).children x.op) (still : is_over (stage_at s x.op.0) ≡ false) where
       abbrev g : Placed job s b h k
-      g = placed job s b h k (has_children s k x.op is_child)
+      g = placed job s b h k (has_children job s b h k x.op is_child)
 
       abbrev roots : List RootId
       roots = g.there.above ++ (operation_at s k).frame.own
@@ -223,10 +212,6 @@ module _ (job : Job) where
         abbrev GoalBy : Activity → Type 0
         GoalBy a = Goal (parts_with (operation_at s k).parts a)
 
-        -- one that holds none
-        none_held : (e : Ending) → (operation_at s k).activity ≡ activity.Closing e → GoalBy (operation_at s k).activity
-        none_held e q = subst GoalBy (sym q) (ap (λ qs. interfere (flat_map held_in qs) (requirements_of s.tree (needs_in x))) (ended e q))
-
         all_are_over : {A : Type 0} → all_over s (operation_at s k).children ≡ true → A
         all_are_over e = absurd (false≢true (sym still ∙ over_child s (operation_at s k).children x.op is_child e))
 
@@ -241,7 +226,11 @@ module _ (job : Job) where
           (All-append (λ (y : Spot G). Apart G (Some y.mode) (G.at (needs_of G (kid D N i f ps (out w d) is r found).node) y.location)) (spots G d) []
           (apart_of D N i f ps (out w d) is r found (spots G d) (held g.way (op D N i f ps (out w d) is) found).1)
           (All-nil (λ (y : Spot G). Apart G (Some y.mode) (G.at (needs_of G (kid D N i f ps (out w d) is r found).node) y.location)))))
-      by_node (op D N i f ps (closing e) is) r found = ⊎_elim (λ c. none_held D N i f ps (closing e) is r found c.1.own c.1.activity_is) (λ c. absurd (goes c.0)) r.0.stands
+      by_node (op D N i f ps (closing e) is) r found = absurd (true≢false (sym closes ∙ goes))
+        where
+          closes : is_closing (stage_at s k) ≡ true
+          closes = ⊎_elim (λ c i. is_closing (stage_of (c.0 i) (operation_at s k).wait (c.1.activity_is i)))
+              (λ c i. is_closing (stage_of (c.0 i) (operation_at s k).wait (operation_at s k).activity)) r.0.stands
       by_node (op D N i f ps (over e) is) r found = all_are_over D N i f ps (over e) is r found r.0.children_are
       by_node (op D N i f ps dropped is) r found = all_are_over D N i f ps dropped is r found (ap (all_over s) r.0.children_are)
 

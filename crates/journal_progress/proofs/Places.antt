@@ -1,5 +1,5 @@
 -- Operations of a state that shows a board of the laws: their places in the tree, and their entries in the graph's list.
-use Rattle.std.proofs.Common.{◌≡◌, ◌<◌, ◌≤◌, ◌⊎◌, ◌∙◌, ◌-◌, ⊎_elim, ℕ, List, Some, [], ap, false, inl, inr, length, map, not, refl, subst, sym}
+use Rattle.std.proofs.Common.{◌≡◌, ◌<◌, ◌≤◌, ◌⊎◌, ◌++◌, ◌∙◌, ◌-◌, ⊎_elim, ℕ, List, Some, [], ap, arith, false, inl, inr, length, map, not, refl, subst, sym}
 use Rattle.std.specs.List.{Contains}
 use Rattle.std.proofs.lemmas.Bool.{cases_lt, false≢true}
 use Rattle.std.proofs.lemmas.List.{get_or_past}
@@ -22,16 +22,17 @@ use Rattle.regent_boards.specs.RegentMachine.{regent_ground}
 use Rattle.code_boards.specs.Laws.{machine_of}
 use Rattle.code_boards.specs.Views.{spaces_of}
 use Rattle.board_terms.specs.declared.operation.Activity.{Activity}
+use Rattle.board_terms.specs.declared.operation.Operation.{Operation}
 use Rattle.board_terms.specs.declared.operation.Wait.{Wait}
 use Rattle.board_terms.specs.Stages.{is_over, stage_at, stage_of}
-use Rattle.board_terms.specs.States.{State, operation_at}
+use Rattle.board_terms.specs.States.{State, no_operation, operation_at}
 use Rattle.board_trees.specs.Names.{IsNaming, pointed, requirement_named}
-use Rattle.board_trees.specs.Shows.{IsListed, Leads, ShowsBoard, needs_issued}
-use Rattle.board_trees.specs.Waits.{has_ended}
+use Rattle.board_trees.specs.Shows.{IsListed, Leads, Shows, ShowsBoard, needs_issued}
+use Rattle.board_trees.specs.Waits.{Sibling, has_ended}
 use Rattle.board_trees.proofs.Named.{is_naming, named_all}
 use Rattle.board_trees.proofs.Settled.{stage_there}
 use Rattle.changed_trees.proofs.Listed.{way_found}
-use Rattle.journal_progress.proofs.Callers.{Reached, WereMade, reached}
+use Rattle.journal_progress.proofs.Callers.{Reached, WereMade, child_at, place_of, reached}
 use Rattle.journal_progress.proofs.Listings.{one_entry}
 
 unended : (kn : Knotted) (w : Wait) (a : Activity) → is_over (stage_of kn w a) ≡ false → is_done (Some kn) ≡ false
@@ -70,6 +71,29 @@ module _ (job : Job) where
           leads = leads;
           there = reached job s h.who b.ways h.own_made w.0 [] 0 k [] [] b.state.tree h.shows (All-nil (λ (r : RootId). r.0 < length s.roots)) (inl refl) leads;
         }
+
+    -- one that has children was issued
+    pub has_children : (k : ℕ) (o : OpNumber) → Contains (operation_at s k).children o → k < length s.operations
+    has_children k o c = ⊎_elim (λ l. l) (λ l. absurd (none (subst (λ (x : Operation). Contains x.children o) (get_or_past s.operations k no_operation l) c))) (cases_lt k (length s.operations))
+      where
+        none : Contains [] o → ⊥
+        none c = omega (arith, c.1)
+
+    shown_within : (way : List ℕ) (k : ℕ) (earlier : List Sibling) (above : List RootId) (n : Node G) → Shows job s h.who b.ways way k earlier above n → k < length s.operations
+    shown_within way k earlier above (op D N i f ps st is) r = r.0.within
+
+    -- and so were its children, later
+    pub issued_child : (k : ℕ) (o : OpNumber) → Contains (operation_at s k).children o → (k < o.0) × (o.0 < length s.operations)
+    issued_child k o c = by_node at.there.node at.there.shows
+      where
+        at : Placed k
+        at = placed k (has_children k o c)
+
+        by_node : (n : Node G) → Shows job s h.who b.ways at.there.at k at.there.earlier at.there.above n → (k < o.0) × (o.0 < length s.operations)
+        by_node (op D N i f ps st is) r =
+            let place = place_of job s h.who b.ways (operation_at s k).children o c in
+            let kid = child_at job s h.who b.ways place.0 at.there.at k 0 [] (at.there.above ++ (operation_at s k).frame.own) (operation_at s k).children is o.0 r.1 place.1 in
+            (kid.child.later, shown_within kid.at o.0 kid.earlier (at.there.above ++ (operation_at s k).frame.own) kid.node kid.shows)
 
     -- what isn't over was issued
     pub is_there : (k : ℕ) → is_over (stage_at s k) ≡ false → k < length s.operations

@@ -31,10 +31,10 @@ use Rattle.claimed_trees.proofs.Claim.{IsFree, idle_told}
 use Rattle.journal_progress.proofs.Places.{Placed, placed}
 
 module _ (job : Job) (s : State) (b : Board (regent_ground (spaces_of job.code))) (h : ShowsBoard job s b) (k seat : ℕ) (ready : may_be_claimed s k ≡ true) where
-  idle_is : is_idle (knot_at s.waits.knots k).stage ≡ true
+  pub idle_is : is_idle (knot_at s.waits.knots k).stage ≡ true
   idle_is = (and_parts (is_idle (knot_at s.waits.knots k).stage) (all_done s.waits.knots (knot_at s.waits.knots k).on) ready).0
 
-  there : k < length s.waits.knots
+  pub there : k < length s.waits.knots
   there = ⊎_elim (λ l. l) (λ l. absurd (false≢true (ap (λ (x : Knot). is_idle x.stage) (sym (get_or_past s.waits.knots k no_knot l)) ∙ idle_is))) (cases_lt k (length s.waits.knots))
 
   pub within : k < length s.operations

@@ -8,8 +8,6 @@ use Rattle.region_tree.specs.Requirements.{Requirement, interfere}
 use Rattle.region_tree.specs.declared.piece.Part.{Part}
 use Rattle.logical_map.specs.Fills.{Filling, moved_pieces}
 use Rattle.logical_map.specs.Maps.{column_of}
-use Rattle.dependence_graph.specs.Knots.{knot_at}
-use Rattle.dependence_graph.specs.declared.stage.Stage.TheVariants.{Stopped}
 use Rattle.task_code.specs.declared.job.Job.{Job}
 use Rattle.run_journal.specs.declared.entry.Entry.{Entry}
 use Rattle.board_terms.specs.declared.claim.Claim.{Claim}
@@ -37,14 +35,10 @@ parts_with qs _ = qs
 abbrev pub parts_held : Operation → List Part
 parts_held o = parts_with o.parts o.activity
 
--- it waited for one that failed
-abbrev pub IsStopped : State → ℕ → Type 0
-IsStopped s k = (knot_at s.waits.knots k).stage ≡ Stopped
-
--- Of every job, whatever steps the seats of its board make: what an operation that wasn't stopped holds, and what it is being
--- filled with, doesn't interfere with the needs of its children that aren't over.
+-- Of every job, whatever steps the seats of its board make: what an operation holds, and what it is being filled with, doesn't
+-- interfere with the needs of its children that aren't over.
 abbrev pub HeldPartsAreApart : Type 0
-HeldPartsAreApart = (job : Job) (journal : List Entry) (s : State) → replay job journal ≡ Some s → (k : ℕ) → ¬ IsStopped s k →
+HeldPartsAreApart = (job : Job) (journal : List Entry) (s : State) → replay job journal ≡ Some s → (k : ℕ) →
     (x : Listed) → Contains s.waits.listing x → Contains (operation_at s k).children x.op → is_over (stage_at s x.op.0) ≡ false →
     interfere (flat_map held_in (parts_held (operation_at s k))) (requirements_of s.tree (needs_in x)) ≡ false
 

@@ -17,8 +17,7 @@ pub fn none_in_progress_interfere()
     ensures { NoneInProgressInterfere }
 {}
 
-/// What an operation that wasn't stopped holds, and what it is being filled with, doesn't interfere with what its
-/// unfinished children need.
+/// What an operation holds, and what it is being filled with, doesn't interfere with what its unfinished children need.
 pub fn held_parts_are_apart()
     ensures { HeldPartsAreApart }
 {}
