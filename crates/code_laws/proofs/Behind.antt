@@ -54,7 +54,7 @@ module _ (x : Setting) (params slots : ℕ) (fit : SlotsFit x slots) (aside : As
       (slice_get-get_or i.frame.slots k blank there ∙ ap (λ u. Some u) (g.names p low ∙ ap (machine_value i.contents) is))
       ∙ ap (on_step x (placed pc st i)) (load_value i.contents v (machine_of (placed pc st i))))
 
-  then_given : (shape : Value → Instance → Instance) (P : Value → State → Instance → Type 0) (i : Instance) (r : Result Value) →
+  pub then_given : (shape : Value → Instance → Instance) (P : Value → State → Instance → Type 0) (i : Instance) (r : Result Value) →
       Comes x i shape P r → Comes x i shape P (and_then r (λ v. given v))
   then_given shape P i (gives v s) c = c
   then_given shape P i (fails f s) c = c

@@ -13,6 +13,7 @@ use Rattle.code_laws.proofs.Operations.{and_runs, fetch_small, named_runs, or_ru
 use Rattle.code_laws.proofs.Arguments.{given_by}
 use Rattle.code_laws.proofs.Accesses.{access_reads}
 use Rattle.code_laws.proofs.Behind.{behind_reads}
+use Rattle.code_laws.proofs.Further.{access_further, behind_further}
 use Rattle.code_laws.proofs.Comparing.{compared_runs, left_fits, operand_runs, right_fits}
 use Rattle.code_laws.proofs.Signs.{prefixed_runs}
 use Rattle.code_laws.proofs.PointerValues.{cast_runs, element_runs, null_runs}
@@ -115,7 +116,8 @@ module _ (x : Setting) (params slots : ℕ) (fit : SlotsFit x slots) (aside : As
         let m = named IsOf h.scope.names s.names n g.typed cut.named in
         colours_run x params slots fit aside h d b.static_type b.place (get_or s.names b.place nothing) name s pc st i cut.partition m.holding
         (named_pointed h.scope.next h.scope.names s.names n cut.numbers g.pointed cut.named) refl (omega (arith, m.below, g.count)) g f) fine.1
-    value_runs h d low (access_expr n (field_step _ (field_step _ _))) s pc st i fine g f = absurd fine
+    value_runs h d low (access_expr n (field_step name (field_step more rest))) s pc st i fine g f =
+        behind_further x params slots fit aside h d n name more rest s pc st i fine.1 fine.2 fine.3 g f
     value_runs h d low (access_expr n (field_step _ (at_step _ _))) s pc st i fine g f = absurd fine
     value_runs h d low (access_expr n (at_step e (field_step name no_step))) s pc st i fine g f =
         let w = where_of params h in
@@ -135,7 +137,18 @@ module _ (x : Setting) (params slots : ℕ) (fit : SlotsFit x slots) (aside : As
         (expressions_keep_names h e s)
         (λ s1 j g1. (named (IsInside x s1.store) h.scope.names s1.names n g1.inside_store fine.3).holding) f
     value_runs h d low (access_expr n (at_step _ (at_step _ _))) s pc st i fine g f = absurd fine
-    value_runs h d low (access_expr n (at_step _ (field_step _ (field_step _ _)))) s pc st i fine g f = absurd fine
+    value_runs h d low (access_expr n (at_step e (field_step name (field_step more rest)))) s pc st i fine g f =
+        let w = where_of params h in
+        let b = bound_to h.scope.names n in
+        let field = any_field x.forms.keeps w n name (element_field w n e name) fine.4 in
+        let m = named IsOf h.scope.names s.names n g.typed field.named in
+        access_further x params slots fit aside h d b.static_type b.place (get_or s.names b.place nothing) e name more rest s pc st i
+        field.region m.holding fine.6 g
+        (λ f1. access_reads x params slots fit aside h d b.static_type b.place (get_or s.names b.place nothing) e name _ s pc st i
+        field.region m.holding refl (omega (arith, m.below, g.count))
+        (λ a f2. value_runs h d low e s a st i fine.1 g f2) (counting x.forms.keeps (typed w e) fine.2) (expressions_keep_names h e s)
+        fine.3 field.field field.keeps
+        (λ s1 j g1. (named (IsInside x s1.store) h.scope.names s1.names n g1.inside_store field.named).holding) fine.5 f1) f
     value_runs h d low (access_expr n (at_step _ (field_step _ (at_step _ _)))) s pc st i fine g f = absurd fine
     value_runs h d low (is_null_expr e) s pc st i fine g f =
         let w = where_of params h in

@@ -5,15 +5,15 @@ use Rattle.plain_values.specs.Points.{has}
 use Rattle.lane_kernels.specs.declared.numbers.FieldKind.{FieldKind}
 use Rattle.lane_kernels.specs.declared.numbers.FieldKind.TheVariants.{Index, Int32, Int64, Pointer, Truth}
 use Rattle.lane_kernels.specs.declared.numbers.Mode.TheVariants as mode
-use Rattle.regent_tree.specs.Accesses.{Aim, aimed_through, converted, hits, misses, read_field, regions_reached, regions_written, space_in, standing, take_element}
+use Rattle.regent_tree.specs.Accesses.{Aim, aimed_through, converted, hits, misses, read_field, regions_reached, regions_written, space_in, standing, take_element, take_field}
 use Rattle.regent_tree.specs.Evaluation.{stepped, value}
 use Rattle.regent_tree.specs.Laws.{Leaves, SameNames}
 use Rattle.regent_tree.specs.Operators.{cast_to}
 use Rattle.regent_tree.specs.Running.{Here, Result, Run, State, and_then, fails, fault, given, gives, if_true}
 use Rattle.regent_tree.specs.Scopes.{bound_to}
 use Rattle.regent_tree.specs.StaticTypes.{Reach, field_kind, field_place, field_type}
-use Rattle.regent_tree.specs.Syntax.{Expression, Name, number_expr, truth_expr, chain_expr, prefix_expr, call_expr, access_expr, convert_expr, is_null_expr, null_expr, cast_expr, space_expr, no_step, field_step, at_step}
-use Rattle.regent_tree.specs.Typing.{reaches_of, taken_from, type_of_element, type_of_field}
+use Rattle.regent_tree.specs.Syntax.{Expression, Name, Steps, number_expr, truth_expr, chain_expr, prefix_expr, call_expr, access_expr, convert_expr, is_null_expr, null_expr, cast_expr, space_expr, no_step, field_step, at_step}
+use Rattle.regent_tree.specs.Typing.{reaches_of, stepped_type, taken_from, type_of_element, type_of_field}
 use Rattle.regent_tree.specs.Values.{Region, Value, a_number, a_partition, a_pointer, a_region, a_space, a_truth, an_index, meant, null_target, number_of, point_target}
 use Rattle.regent_tree.specs.declared.outcome.FaultKind.TheVariants.{OutOfRegion}
 use Rattle.regent_tree.specs.declared.types.Kind.{Kind}
@@ -28,7 +28,7 @@ use Rattle.code_laws.specs.Pointers.{ArePointed, AreReached, AreThere, IsPointed
 use Rattle.code_laws.specs.Simple.{IsPartition, IsRegion, a_partition_type, a_region_type}
 use Rattle.code_laws.specs.Standing.{AreOf, Comes, IsOf, nothing, of_partition, of_pointer, of_region, where_of}
 use Rattle.code_laws.specs.Steps.{Forms, Setting}
-use Rattle.code_laws.specs.Typed.{IsBehind, IsPointing, IsTyped, MayGo, element_field, field_behind}
+use Rattle.code_laws.specs.Typed.{AreFurther, IsBehind, IsPointing, IsTyped, MayGo, element_field, field_behind}
 use Rattle.code_laws.proofs.Pointing.{named_pointed, own_reached}
 use Rattle.code_laws.proofs.PointerValues.{there_reached}
 use Rattle.code_laws.proofs.Runs.{Said}
@@ -107,14 +107,14 @@ read_pointed h k sp args rs f (hits root n) s a =
     (there_reached h.scope s.names (space_in t) (reaches_of t) a.0 a.1 a.2)
 
 -- `p.f`, for a name that has a pointer or a partition
-behind_pointed : (h : Here) (t : StaticType) (f : Name) (v : Value) (s : State) → IsPointer t ⊎ IsPartition t → IsOf t v →
+pub behind_pointed : (h : Here) (t : StaticType) (f : Name) (v : Value) (s : State) → IsPointer t ⊎ IsPartition t → IsOf t v →
     AreInScope h s (type_of_field h.tree t f) →
     GivesOnly (λ u s1. IsPointed h.scope.names s1.names (type_of_field h.tree t f) u) (stepped h t v (field_step f no_step) s)
 behind_pointed h _ f _ s (inl (a_pointer_type k sp args rs ns)) (of_pointer _ _ _ _ tg qs o) a = read_pointed h k sp args rs f (aimed_through qs tg) s a
 behind_pointed h _ f _ s (inr (a_partition_type d r p)) (of_partition _ _ _ q) a = tt
 
 -- `r[e].f`, for a name that has a region
-field_pointed : (h : Here) (t : StaticType) (v : Value) (e : Expression) (f : Name) (s : State) → IsRegion t → IsOf t v →
+pub field_pointed : (h : Here) (t : StaticType) (v : Value) (e : Expression) (f : Name) (s : State) → IsRegion t → IsOf t v →
     AreInScope h s (type_of_field h.tree (type_of_element h.scope t e) f) →
     GivesOnly (λ u s1. IsPointed h.scope.names s1.names (type_of_field h.tree (type_of_element h.scope t e) f) u)
     (stepped h t v (at_step e (field_step f no_step)) s)
@@ -124,6 +124,80 @@ field_pointed h _ _ e f s (a_region_type k sp args r) (of_region _ _ _ _ q) a =
     (expressions_keep_names h e s)
     (λ s1 n names. read_pointed h k sp args (Some r ∷ []) f (aimed_through (q ∷ []) (point_target n 1)) s1
     (subst (λ ns. AreOf IsOf h.scope.names ns) (sym names) a.0, ap length names ∙ a.1, a.2))
+
+-- ---- fields of what fields go to
+
+pub only_given : (P : Value → State → Type 0) (r : Result Value) → GivesOnly P (and_then r (λ v. given v)) → GivesOnly P r
+only_given P (gives v s) p = p
+only_given P (fails f s) p = tt
+
+-- of any value
+pub taken_pointed : (h : Here) (t : StaticType) (f : Name) (v : Value) (s : State) → IsPointer t → AreInScope h s (type_of_field h.tree t f) →
+    GivesOnly (λ u s1. IsPointed h.scope.names s1.names (type_of_field h.tree t f) u) (and_then (take_field h t f v s) (λ u. given u))
+taken_pointed h _ f (a_pointer tg qs) s (a_pointer_type k sp args rs ns) a = read_pointed h k sp args rs f (aimed_through qs tg) s a
+taken_pointed h _ f (a_partition q) s (a_pointer_type k sp args rs ns) a = tt
+taken_pointed h _ f (a_number w z) s (a_pointer_type k sp args rs ns) a = tt
+taken_pointed h _ f (a_truth b) s (a_pointer_type k sp args rs ns) a = tt
+taken_pointed h _ f (an_index z) s (a_pointer_type k sp args rs ns) a = tt
+taken_pointed h _ f (a_space n) s (a_pointer_type k sp args rs ns) a = tt
+taken_pointed h _ f (a_region q) s (a_pointer_type k sp args rs ns) a = tt
+
+-- what is read leaves the names
+module _ (h : Here) (P : Value → State → Type 0) (K : Value → Run Value) where
+  read_only : (t : StaticType) (f : Name) (aim : Aim) (s : State) → ((u : Value) (s1 : State) → s1.names ≡ s.names → GivesOnly P (K u s1)) →
+      GivesOnly P (and_then (read_field h t f aim s) K)
+  read_only t f (misses fault) s p = tt
+  read_only t f (hits root n) s p = p _ _ refl
+
+  taken_only : (t : StaticType) (f : Name) (v : Value) (s : State) → ((u : Value) (s1 : State) → s1.names ≡ s.names → GivesOnly P (K u s1)) →
+      GivesOnly P (and_then (take_field h t f v s) K)
+  taken_only t f (a_pointer tg qs) s p = read_only t f (aimed_through qs tg) s p
+  taken_only t f (a_partition q) s p = p _ s refl
+  taken_only t f (a_number w z) s p = tt
+  taken_only t f (a_truth b) s p = tt
+  taken_only t f (an_index z) s p = tt
+  taken_only t f (a_space n) s p = tt
+  taken_only t f (a_region q) s p = tt
+
+scope_stays : (h : Here) (s s1 : State) (t : StaticType) → s1.names ≡ s.names → AreInScope h s t → AreInScope h s1 t
+scope_stays h s s1 t names a = (subst (λ ns. AreOf IsOf h.scope.names ns) (sym names) a.0, ap length names ∙ a.1, a.2)
+
+module _ (forms : Forms) (params : ℕ) (h : Here) where
+  further_pointed : (rest : Steps) (t : StaticType) (f : Name) (v : Value) (s : State) → AreFurther forms (where_of params h) t (field_step f rest) →
+      AreInScope h s (stepped_type h.tree h.scope t (field_step f rest)) →
+      GivesOnly (λ u s1. IsPointed h.scope.names s1.names (stepped_type h.tree h.scope t (field_step f rest)) u) (stepped h t v (field_step f rest) s)
+  further_pointed no_step t f v s fine a = taken_pointed h t f v s fine.0.pointer a
+  further_pointed (field_step g rest) t f v s fine a =
+      taken_only h (λ u s1. IsPointed h.scope.names s1.names (stepped_type h.tree h.scope t (field_step f (field_step g rest))) u)
+      (λ u. stepped h (type_of_field h.tree t f) u (field_step g rest)) t f v s
+      (λ u s1 names. further_pointed rest (type_of_field h.tree t f) g u s1 fine.1
+      (scope_stays h s s1 (stepped_type h.tree h.scope t (field_step f (field_step g rest))) names a))
+  further_pointed (at_step e rest) t f v s fine a = absurd fine.1
+
+  -- `p.f.g`
+  behind_further : (rest : Steps) (t : StaticType) (f g : Name) (v : Value) (s : State) →
+      AreFurther forms (where_of params h) (type_of_field h.tree t f) (field_step g rest) →
+      AreInScope h s (stepped_type h.tree h.scope t (field_step f (field_step g rest))) →
+      GivesOnly (λ u s1. IsPointed h.scope.names s1.names (stepped_type h.tree h.scope t (field_step f (field_step g rest))) u)
+      (stepped h t v (field_step f (field_step g rest)) s)
+  behind_further rest t f g v s fine a =
+      taken_only h (λ u s1. IsPointed h.scope.names s1.names (stepped_type h.tree h.scope t (field_step f (field_step g rest))) u)
+      (λ u. stepped h (type_of_field h.tree t f) u (field_step g rest)) t f v s
+      (λ u s1 names. further_pointed rest (type_of_field h.tree t f) g u s1 fine
+      (scope_stays h s s1 (stepped_type h.tree h.scope t (field_step f (field_step g rest))) names a))
+
+  -- `r[e].f.g`
+  field_further : (rest : Steps) (t : StaticType) (e : Expression) (f g : Name) (v : Value) (s : State) → IsRegion t → IsOf t v →
+      AreFurther forms (where_of params h) (type_of_field h.tree (type_of_element h.scope t e) f) (field_step g rest) →
+      AreInScope h s (stepped_type h.tree h.scope t (at_step e (field_step f (field_step g rest)))) →
+      GivesOnly (λ u s1. IsPointed h.scope.names s1.names (stepped_type h.tree h.scope t (at_step e (field_step f (field_step g rest)))) u)
+      (stepped h t v (at_step e (field_step f (field_step g rest))) s)
+  field_further rest _ e f g _ s (a_region_type k sp args r) (of_region _ _ _ _ q) fine a =
+      let t = region_type k sp args r in
+      let out = stepped_type h.tree h.scope t (at_step e (field_step f (field_step g rest))) in
+      element_only h (λ u s1. IsPointed h.scope.names s1.names out u) q
+      (λ v. stepped h (type_of_element h.scope t e) v (field_step f (field_step g rest))) (value h e s) s (expressions_keep_names h e s)
+      (λ s1 n names. behind_further rest (type_of_element h.scope t e) f g (a_pointer (point_target n 1) (q ∷ [])) s1 fine (scope_stays h s s1 out names a))
 
 -- ---- written types
 
@@ -183,9 +257,15 @@ pointing forms params h (access_expr n (at_step e (field_step f no_step))) s fin
     let field = any_field forms.keeps (where_of params h) n f (element_field (where_of params h) n e f) fine.3 in
     let m = named IsOf h.scope.names s.names n o field.named in
     field_pointed h b.static_type (get_or s.names b.place nothing) e f s field.region m.holding (o, long, p)
-pointing forms params h (access_expr n (field_step _ (field_step _ _))) s fine p a o long = absurd p
+pointing forms params h (access_expr n (field_step f (field_step g rest))) s fine p a o long =
+    let b = bound_to h.scope.names n in
+    behind_further forms params h rest b.static_type f g (get_or s.names b.place nothing) s fine.3 (o, long, p)
 pointing forms params h (access_expr n (field_step _ (at_step _ _))) s fine p a o long = absurd p
-pointing forms params h (access_expr n (at_step _ (field_step _ (field_step _ _)))) s fine p a o long = absurd p
+pointing forms params h (access_expr n (at_step e (field_step f (field_step g rest)))) s fine p a o long =
+    let b = bound_to h.scope.names n in
+    let field = any_field forms.keeps (where_of params h) n f (element_field (where_of params h) n e f) fine.4 in
+    let m = named IsOf h.scope.names s.names n o field.named in
+    field_further forms params h rest b.static_type e f g (get_or s.names b.place nothing) s field.region m.holding fine.6 (o, long, p)
 pointing forms params h (access_expr n (at_step _ (field_step _ (at_step _ _)))) s fine p a o long = absurd p
 pointing forms params h (access_expr n (at_step _ (at_step _ _))) s fine p a o long = absurd p
 pointing forms params h (number_expr _ _) s fine p a o long = absurd p

@@ -18,6 +18,7 @@ use Rattle.check_rules.specs.rules.Privileges.{lacks, may_do, rights_declared, w
 use Rattle.check_rules.specs.scopes.Sound.{IsSoundTask}
 use Rattle.check_rules.specs.types.TypedForms.{field_of}
 use Rattle.code_rules.specs.Slots.{Where, bound}
+use Rattle.regent_tree.specs.declared.typing.StaticType.{StaticType}
 use Rattle.code_laws.specs.Handing.{forms_by, takes_by}
 use Rattle.code_laws.specs.Simple.{term_in}
 use Rattle.code_laws.specs.Taking.{MayDo}
@@ -61,12 +62,12 @@ reach_goals handing keeping task w sound h falls field sp a (Some (place.Child p
 )
 reach_goals handing keeping task w sound h falls field sp a (Some (place.Child p c) ∷ (r ∷ rs)) among e = absurd cc
 
--- so of a field of what a name's pointer goes to
-pub aimed_may : (handing keeping : Bool) (marked : FieldMarks) (task : TaskTree) (w : Where) → IsSoundTask w.tree task → KnowsHead w.tree task w.scope → Falls w.scope.next w.scope.names →
-    (n f : Name) (a : Access) → (p : IsAimed keeping marked w.tree w.scope.names (bound w n).static_type f) →
-    lacks w.tree task w.scope (wanted_of_step w.tree a (field_of (bound w n).static_type f)) ≡ false → MayGo (forms_by handing keeping w.tree task) w n f (mode_in a)
-aimed_may handing keeping marked task w sound h falls n f a p lacking =
-    let t = (bound w n).static_type in
+-- so of a field of what a pointer goes to
+pub aimed_reach : (handing keeping : Bool) (marked : FieldMarks) (task : TaskTree) (w : Where) → IsSoundTask w.tree task → KnowsHead w.tree task w.scope → Falls w.scope.next w.scope.names →
+    (t : StaticType) (f : Name) (a : Access) → (p : IsAimed keeping marked w.tree w.scope.names t f) →
+    lacks w.tree task w.scope (wanted_of_step w.tree a (field_of t f)) ≡ false →
+    MayReach (forms_by handing keeping w.tree task) w (reaches_of t) (field_place w.tree (space_in t) f) (mode_in a)
+aimed_reach handing keeping marked task w sound h falls t f a p lacking =
     let field = field_place w.tree (space_in t) f in
     let wants = map (wanting field a) (regions_named p.reaches) in
     let allowed : lacks w.tree task w.scope (cond (has_field w.tree (space_in t) f && not (has_wild p.reaches)) wants []) ≡ false =
@@ -76,3 +77,9 @@ aimed_may handing keeping marked task w sound h falls n f a p lacking =
     let all : lacks w.tree task w.scope wants ≡ false = ap (λ b. lacks w.tree task w.scope (cond b wants [])) (sym some) ∙ allowed in
     subst (λ rs. MayReach (forms_by handing keeping w.tree task) w rs field (mode_in a)) (sym (ap reaches_of p.is))
     (reach_goals handing keeping task w sound h falls field (space_in t) a p.reaches p.among (not-false _ all))
+
+-- which is a name's
+pub aimed_may : (handing keeping : Bool) (marked : FieldMarks) (task : TaskTree) (w : Where) → IsSoundTask w.tree task → KnowsHead w.tree task w.scope → Falls w.scope.next w.scope.names →
+    (n f : Name) (a : Access) → (p : IsAimed keeping marked w.tree w.scope.names (bound w n).static_type f) →
+    lacks w.tree task w.scope (wanted_of_step w.tree a (field_of (bound w n).static_type f)) ≡ false → MayGo (forms_by handing keeping w.tree task) w n f (mode_in a)
+aimed_may handing keeping marked task w sound h falls n f a p lacking = aimed_reach handing keeping marked task w sound h falls (bound w n).static_type f a p lacking

@@ -43,6 +43,7 @@ pub mod PointerValues
 pub mod Comparing
 pub mod Signs
 pub mod Knowing
+pub mod Further
 pub mod Expressions
 pub mod Rows
 pub mod PairCuts
@@ -52,6 +53,7 @@ pub mod SpaceLoops
 pub mod RegionLoops
 pub mod PrintRuns
 pub mod Elements
+pub mod FurtherWrites
 pub mod Folds
 pub mod Variables
 pub mod Moving
@@ -83,6 +85,7 @@ pub mod LocalCalls
 pub mod LocalDivided
 pub mod LocalParts
 pub mod LocalPoints
+pub mod LocalSteps
 pub mod LocalElements
 pub mod LocalNulls
 pub mod LocalTaken
@@ -95,6 +98,7 @@ pub mod LocalImages
 pub mod LocalStatements
 pub mod LocalDomains
 pub mod LocalAssignments
+pub mod LocalTargets
 pub mod LocalBlocks
 pub mod LocalMarks
 pub mod LocalParams

@@ -1,5 +1,5 @@
 -- Bodies of a text with marked names, of which no breach is told, are typed.
-use Rattle.std.proofs.Common.{◌≡◌, ◌⊎◌, inl, inr, Bool, List, [], ◌∷◌, ◌++◌, None, Option, Some, false, true, sym, subst, ℕ, ◌∙◌}
+use Rattle.std.proofs.Common.{◌≡◌, ◌⊎◌, inl, inr, Bool, List, [], ◌∷◌, ◌++◌, None, Option, Some, false, true, sym, subst, ℕ, ◌∙◌, ◌&&◌}
 use Rattle.std.specs.List.{list_any}
 use Rattle.std.proofs.lemmas.Bool.{and_parts}
 use Rattle.plain_values.proofs.Plain.{option_or_parts}
@@ -32,6 +32,7 @@ use Rattle.code_laws.specs.Steps.{Forms}
 use Rattle.code_laws.specs.Typed.{AreTypedArms, IsTypedBlock, IsTypedElse, IsTypedForm, IsIndexed, IsTyped}
 use Rattle.code_laws.proofs.KnownHeads.{IsReady, KnowsFacts, head_looping, head_past}
 use Rattle.code_laws.proofs.LocalNames.{AllKept, IsLocalTree, kept_scalar}
+use Rattle.code_laws.proofs.LocalTargets.{behind_local, element_local}
 use Rattle.code_laws.proofs.LocalAssignments.{reduce_behind_local, reduce_field_local, reduce_local, set_behind_local, set_field_local, set_local}
 use Rattle.code_laws.proofs.LocalDomains.{domain_local}
 use Rattle.code_laws.proofs.LocalStatements.{bound_local, call_local, fill_local, print_local, return_local, test_local}
@@ -157,25 +158,29 @@ module _ (handing keeping : Bool) (tree : Tree) (task : TaskTree) (sound : IsSou
   assign_local s line n no_step how.Set y lo k scope names e = set_local handing keeping tree task sound sound_task m local params result s line n y lo k scope names e
   assign_local s line n no_step (how.Reduce o) y lo k scope names e = reduce_local handing keeping tree task sound sound_task m local params result s line n o y lo k scope names e
   assign_local s line n (at_step x (field_step f no_step)) how.Set y lo k scope names e =
-      let both = and_parts (is_local_expression m x) (is_local_expression m y) lo in
+      let both = and_parts (is_local_expression m x && true) (is_local_expression m y) lo in
       let ks = kept_element x f y k in
-      set_field_local handing keeping tree task sound sound_task m local params result s line n x f y both.0 both.1 ks.0 ks.1 scope names e
+      set_field_local handing keeping tree task sound sound_task m local params result s line n x f y (and_parts (is_local_expression m x) true both.0).0 both.1 ks.0 ks.1 scope names e
   assign_local s line n (at_step x (field_step f no_step)) (how.Reduce o) y lo k scope names e =
-      let both = and_parts (is_local_expression m x) (is_local_expression m y) lo in
+      let both = and_parts (is_local_expression m x && true) (is_local_expression m y) lo in
       let ks = kept_element x f y k in
-      reduce_field_local handing keeping tree task sound sound_task m local params result s line n x f o y both.0 both.1 ks.0 ks.1 scope names e
+      reduce_field_local handing keeping tree task sound sound_task m local params result s line n x f o y (and_parts (is_local_expression m x) true both.0).0 both.1 ks.0 ks.1 scope names e
   assign_local s line n (field_step f no_step) how.Set y lo k scope names e =
-      let both = and_parts (is_among m.pointers n) (is_local_expression m y) lo in
+      let both = and_parts (is_among m.pointers n && true) (is_local_expression m y) lo in
       set_behind_local handing keeping tree task sound sound_task m local params result s line n f y both.1 (kept_behind_field f y k) scope names e
   assign_local s line n (field_step f no_step) (how.Reduce o) y lo k scope names e =
-      let both = and_parts (is_among m.pointers n) (is_local_expression m y) lo in
+      let both = and_parts (is_among m.pointers n && true) (is_local_expression m y) lo in
       reduce_behind_local handing keeping tree task sound sound_task m local params result s line n f o y both.1 (kept_behind_field f y k) scope names e
-  assign_local s line n (field_step _ (field_step _ _)) h y lo k scope names e = absurd (no_way_back lo)
-  assign_local s line n (field_step _ (at_step _ _)) h y lo k scope names e = absurd (no_way_back lo)
+  assign_local s line n (field_step f (field_step g rest)) h y lo k scope names e =
+      behind_local handing keeping tree task sound sound_task m local params result s line n f g rest h y lo k scope names e
+  assign_local s line n (field_step _ (at_step _ _)) h y lo k scope names e =
+      absurd (no_way_back (and_parts (is_among m.pointers n) false (and_parts (is_among m.pointers n && false) (is_local_expression m y) lo).0).1)
   assign_local s line n (at_step _ no_step) h y lo k scope names e = absurd (no_way_back lo)
   assign_local s line n (at_step _ (at_step _ _)) h y lo k scope names e = absurd (no_way_back lo)
-  assign_local s line n (at_step _ (field_step _ (field_step _ _))) h y lo k scope names e = absurd (no_way_back lo)
-  assign_local s line n (at_step _ (field_step _ (at_step _ _))) h y lo k scope names e = absurd (no_way_back lo)
+  assign_local s line n (at_step i (field_step f (field_step g rest))) h y lo k scope names e =
+      element_local handing keeping tree task sound sound_task m local params result s line n i f g rest h y lo k scope names e
+  assign_local s line n (at_step i (field_step _ (at_step _ _))) h y lo k scope names e =
+      absurd (no_way_back (and_parts (is_local_expression m i) false (and_parts (is_local_expression m i && false) (is_local_expression m y) lo).0).1)
 
   mutual
     pub form_local : (s : Scope) (line : ℕ) (form : Form) → is_local_form m form ≡ true → AreKept (parts_of_form form) → IsSoundScope s →

@@ -6,8 +6,8 @@ use Rattle.regent_tree.specs.Accesses.{space_in}
 use Rattle.regent_tree.specs.Lookup.{is_bound}
 use Rattle.regent_tree.specs.Scopes.{bound_as, bound_to}
 use Rattle.regent_tree.specs.StaticTypes.{Reach}
-use Rattle.regent_tree.specs.Syntax.{Expression, Name, TaskTree, access_expr, at_step, call_expr, cast_expr, chain_expr, convert_expr, field_step, is_null_expr, no_step, null_expr, number_expr, prefix_expr, space_expr, truth_expr, Tree}
-use Rattle.regent_tree.specs.Typing.{reaches_of, taken_from, type_of_element, type_of_field}
+use Rattle.regent_tree.specs.Syntax.{Expression, Name, Steps, TaskTree, access_expr, at_step, call_expr, cast_expr, chain_expr, convert_expr, field_step, is_null_expr, no_step, null_expr, number_expr, prefix_expr, space_expr, truth_expr, Tree}
+use Rattle.regent_tree.specs.Typing.{reaches_of, stepped_type, taken_from, type_of_element, type_of_field}
 use Rattle.regent_tree.specs.declared.facts.Term.TheVariants as place
 use Rattle.regent_tree.specs.declared.types.Kind.{Kind}
 use Rattle.regent_tree.specs.declared.typing.Bound.{Bound}
@@ -30,7 +30,7 @@ use Rattle.code_laws.specs.Pointers.{IsCounting, AreNames, KeepsAs, keeps_index,
 use Rattle.code_laws.specs.Pointers.{AreThere}
 use Rattle.code_laws.specs.Simple.{IsRegion, a_region_type, term_in, IsPartition, a_partition_type, fits_32, fits_64, fits_truth}
 use Rattle.code_laws.specs.Steps.{Forms}
-use Rattle.code_laws.specs.Typed.{IsOwnRegion, IsPointing, IsTyped, IsBehind, MayGo, element_field, field_behind}
+use Rattle.code_laws.specs.Typed.{AreFurther, IsOwnRegion, IsPointing, IsTyped, IsBehind, MayGo, element_field, field_behind}
 use Rattle.code_laws.proofs.KnownHeads.{KnowsHead}
 use Rattle.code_laws.proofs.LocalNames.{AllKept, IsKept, IsLocalTree, kept_partition, kept_region, kept_scalar, kept_value, named_kept, value_no_region}
 use Rattle.code_laws.proofs.LocalPlaces.{taking_told}
@@ -54,7 +54,13 @@ kept_names _ _ _ (keeps_pointer k sp args rs names few) = names
 colours_names : (tree : Tree) (t : StaticType) (f : Name) → IsPartition t → AreNames (reaches_of (type_of_field tree t f))
 colours_names tree _ f (a_partition_type d r p) = tt
 
--- a name that stands alone, an element, a field, null and a cast are pointers of which the regions are known
+further_names : (forms : Forms) (w : Where) (rest : Steps) (t : StaticType) (f : Name) → AreFurther forms w t (field_step f rest) →
+    AreNames (reaches_of (stepped_type w.tree w.scope t (field_step f rest)))
+further_names forms w no_step t f fine = kept_names _ _ _ fine.0.keeps
+further_names forms w (field_step g rest) t f fine = further_names forms w rest (type_of_field w.tree t f) g fine.1
+further_names forms w (at_step e rest) t f fine = absurd fine.1
+
+-- a name that stands alone, an element, a field, one of what a field goes to, null and a cast are pointers of which the regions are known
 pub points_by_form : (forms : Forms) (w : Where) (e : Expression) → Falls w.scope.next w.scope.names →
     (AreNames (reaches_of (typed w e)) → AreThere w.scope.names (space_in (typed w e)) (reaches_of (typed w e))) → IsTyped forms w e →
     is_pointing e ≡ true → IsPointing w e
@@ -65,10 +71,12 @@ points_by_form forms w (access_expr n (at_step e (field_step f no_step))) falls 
 points_by_form forms w (access_expr n (field_step f no_step)) falls there fine h = ⊎_elim
     (λ (b : IsBehind w n f (field_behind w n f) × MayGo forms w n f mode.Read). there (kept_names _ _ _ b.0.keeps))
     (λ (c : IsCutName w n). there (colours_names w.tree (bound w n).static_type f c.partition)) fine.1
-points_by_form forms w (access_expr n (at_step e (field_step _ (field_step _ _)))) falls there fine h = absurd (no_way_back h)
+points_by_form forms w (access_expr n (at_step e (field_step f (field_step g rest)))) falls there fine h =
+    there (further_names forms w rest (element_field w n e f) g fine.6)
 points_by_form forms w (access_expr n (at_step e (field_step _ (at_step _ _)))) falls there fine h = absurd (no_way_back h)
 points_by_form forms w (access_expr n (at_step e (at_step _ _))) falls there fine h = absurd (no_way_back h)
-points_by_form forms w (access_expr n (field_step _ (field_step _ _))) falls there fine h = absurd (no_way_back h)
+points_by_form forms w (access_expr n (field_step f (field_step g rest))) falls there fine h =
+    there (further_names forms w rest (field_behind w n f) g fine.3)
 points_by_form forms w (access_expr n (field_step _ (at_step _ _))) falls there fine h = absurd (no_way_back h)
 points_by_form forms w (number_expr _ _) falls there fine h = absurd (no_way_back h)
 points_by_form forms w (truth_expr _) falls there fine h = absurd (no_way_back h)

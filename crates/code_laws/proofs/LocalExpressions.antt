@@ -4,7 +4,7 @@ use Rattle.std.specs.Prelude.{is_none, length, map, ◌&&◌, ◌||◌}
 use Rattle.std.specs.List.{list_any}
 use Rattle.std.proofs.lemmas.Bool.{and_parts, not-false, not-true, or_parts}
 use Rattle.plain_values.proofs.Plain.{option_or_parts}
-use Rattle.regent_tree.specs.Limits.{literal, node, nodes, parts_of_expression, parts_of_expressions, parts_of_links, parts_of_pointer}
+use Rattle.regent_tree.specs.Limits.{literal, node, nodes, parts_of_expression, parts_of_expressions, parts_of_links, parts_of_pointer, parts_of_steps}
 use Rattle.regent_tree.specs.Lookup.{has_task, is_bound}
 use Rattle.regent_tree.specs.StaticTypes.{task_named}
 use Rattle.regent_tree.specs.Syntax.{Expression, Expressions, Links, Name, TaskTree, Tree, a_link, access_expr, an_expr, at_step, call_expr, cast_expr, chain_expr, convert_expr, field_step, is_null_expr, no_expr, no_link, no_step, null_expr, number_expr, prefix_expr, space_expr, truth_expr}
@@ -31,7 +31,7 @@ use Rattle.check_rules.specs.types.TypedForms.{calling, computing, element_of, f
 use Rattle.check_rules.specs.declared.rule.Rule.TheVariants as rule
 use Rattle.check_rules.proofs.Untold.{rule_none}
 use Rattle.code_rules.specs.Slots.{Where, bound, typed}
-use Rattle.local_form.specs.LocalForm.{Marked, are_local_arguments, are_local_expressions, are_local_links, gives_scalar, is_among, is_kept_field, is_local_expression, is_name, is_part, links_give, converts_to, gives_pointer, goes_to_names, takes_element}
+use Rattle.local_form.specs.LocalForm.{Marked, are_fields, are_local_arguments, are_local_expressions, are_local_links, gives_scalar, is_among, is_kept_field, is_local_expression, is_name, is_part, links_give, converts_to, gives_pointer, goes_to_names, takes_element}
 use Rattle.code_laws.specs.Handing.{forms_by}
 use Rattle.code_laws.specs.Pointers.{ConvertsTo, CountsAs, term_index}
 use Rattle.code_laws.specs.Simple.{IsPartition, IsScalar, IsSimple, a_partition_type, scalar_integer, scalar_truth, simple_index, simple_space, simple_truth, term_32, term_64}
@@ -39,6 +39,7 @@ use Rattle.code_laws.specs.Steps.{Forms}
 use Rattle.code_laws.specs.Typed.{AreNumbers, ArePassed, AreTypedLinks}
 use Rattle.code_laws.proofs.KnownHeads.{KnowsHead}
 use Rattle.code_laws.proofs.LocalElements.{element_well}
+use Rattle.code_laws.proofs.LocalSteps.{further_at, further_behind}
 use Rattle.code_laws.proofs.LocalNulls.{cast_well, is_null_well, null_well}
 use Rattle.code_laws.proofs.LocalParts.{and_then, given_result}
 use Rattle.code_laws.proofs.LocalNames.{AllKept, AreScalars, AreTakable, IsLocalTree, named_kept, no_partition_kept, kept_as_value, partition_keeps, partition_or}
@@ -192,7 +193,7 @@ module _ (handing keeping : Bool) (task : TaskTree) (w : Where) (sound : IsSound
         let step = option_or_parts (first_of_step w.tree task w.scope taking) _ index.1 in
         let field = (option_or_parts (first_of_step w.tree task w.scope (field_of (known_type_after_step w.tree taking (type_of_element w.scope t e)) f)) _ step.1).0 in
         let parts = kept_behind node (parts_of_expression e ++ (node ∷ [])) (kept_behind node (node ∷ (parts_of_expression e ++ (node ∷ []))) k) in
-        let a = local_well e lo (kept_left (parts_of_expression e) (node ∷ []) parts) index.0 in
+        let a = local_well e (and_parts (is_local_expression m e) true lo).0 (kept_left (parts_of_expression e) (node ∷ []) parts) index.0 in
         let reading = option_or_parts _ _ field in
         let p = at_point handing keeping task w sound sound_task m local scope names head n e f there index.0 a (option_or_parts (first_of_taking w.tree taking) _ step.0).0 reading.0 in
         let is = named_place handing keeping w sound m local n e f scope there p.place in
@@ -228,16 +229,22 @@ module _ (handing keeping : Bool) (task : TaskTree) (w : Where) (sound : IsSound
           scalar = λ q. absurd (no_way_back q);
           plain = λ q. simple_space kind;
         }
-    local_well (access_expr n (field_step _ (field_step _ _))) lo k e = absurd (no_way_back lo)
-    local_well (access_expr n (field_step _ (at_step _ _))) lo k e = absurd (no_way_back lo)
+    local_well (access_expr n (field_step f (field_step g rest))) lo k none =
+        further_behind handing keeping task w sound sound_task m local scope names head n f g rest (and_parts (is_among m.pointers n) (are_fields rest) lo).1 none
+    local_well (access_expr n (field_step _ (at_step e rest))) lo k none = absurd (no_way_back (and_parts (is_among m.pointers n) false lo).1)
     local_well (access_expr n (at_step e no_step)) lo k none =
         let s = and_parts (takes_element m n) (is_local_expression m e) lo in
         let parts = kept_behind node (parts_of_expression e ++ []) (kept_behind node (node ∷ (parts_of_expression e ++ [])) k) in
         element_well handing keeping task w sound sound_task m local scope names head n e s.0 none
         (λ own. local_well e s.1 (kept_left (parts_of_expression e) [] parts) own)
     local_well (access_expr n (at_step _ (at_step _ _))) lo k e = absurd (no_way_back lo)
-    local_well (access_expr n (at_step _ (field_step _ (field_step _ _)))) lo k e = absurd (no_way_back lo)
-    local_well (access_expr n (at_step _ (field_step _ (at_step _ _)))) lo k e = absurd (no_way_back lo)
+    local_well (access_expr n (at_step e (field_step f (field_step g rest)))) lo k none =
+        let s = and_parts (is_local_expression m e) (are_fields rest) lo in
+        let more = parts_of_steps (field_step f (field_step g rest)) in
+        let parts = kept_behind node (parts_of_expression e ++ more) (kept_behind node (node ∷ (parts_of_expression e ++ more)) k) in
+        further_at handing keeping task w sound sound_task m local scope names head n e f g rest s.1 none
+        (λ own. local_well e s.0 (kept_left (parts_of_expression e) more parts) own)
+    local_well (access_expr n (at_step e (field_step _ (at_step _ _)))) lo k none = absurd (no_way_back (and_parts (is_local_expression m e) false lo).1)
     local_well (is_null_expr e) lo k none =
         is_null_well handing keeping task w sound sound_task m local scope names head e none (λ own. local_well e lo (kept_behind node (parts_of_expression e) k) own)
     local_well (null_expr p) lo k none = null_well handing keeping task w sound sound_task m local scope names head p lo none

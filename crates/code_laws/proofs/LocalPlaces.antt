@@ -110,6 +110,7 @@ module _ (keeping : Bool) (m : Marked) (bs : List Bound) (names : AllKept keepin
 pub record IsFound (keeping : Bool) (marked : FieldMarks) (tree : Tree) (bs : List Bound) (sp : ℕ) (args : List Reach) (f : Name) : Type 0 where
   pub held : IsHeld keeping marked f (field_term tree sp (field_place tree sp f)) (field_type tree sp args f)
   pub among : AreAmong bs (space_in (field_type tree sp args f)) (reaches_of (field_type tree sp args f))
+  pub spaced : IsSpaced tree bs (field_type tree sp args f)
 
 module _ (handing keeping : Bool) (tree : Tree) (sound : IsSound tree) (m : Marked) (local : IsLocalTree handing keeping m tree) (bs : List Bound)
     (names : AllKept keeping m bs) where
@@ -120,10 +121,11 @@ module _ (handing keeping : Bool) (tree : Tree) (sound : IsSound tree) (m : Mark
       let t = field_type tree sp args f in
       let flawless = (or_parts (is_no_field_type term) _ (sound.fields sp f there)).0 in
       let among = named_among keeping m bs names (space_in t) (reaches_of t) (field_regions tree bs sp args are f local.declared there flawless) in
-      let few = (field_spaced tree bs sp args are f local.declared there flawless).few in record {
+      let spaced = field_spaced tree bs sp args are f local.declared there flawless in record {
         held = term_held keeping (fields_of m) f term (local.fields sp f there) tree (among_args (space_at tree sp).params args) 0
-            (names_among bs (space_in t) (reaches_of t) among) few;
+            (names_among bs (space_in t) (reaches_of t) among) spaced.few;
         among = among;
+        spaced = spaced;
       }
 
 -- the type of what a name is bound to, where all types are so
@@ -142,6 +144,7 @@ pub record IsPlace (keeping : Bool) (marked : FieldMarks) (w : Where) (i : ℕ) 
   pub field : field_place w.tree (space_in t) f < length (space_at w.tree (space_in t)).fields
   pub held : IsHeld keeping marked f (field_term w.tree (space_in t) (field_place w.tree (space_in t) f)) (type_of_field w.tree (type_of_element w.scope t e) f)
   pub among : AreAmong w.scope.names (space_in (type_of_field w.tree (type_of_element w.scope t e) f)) (reaches_of (type_of_field w.tree (type_of_element w.scope t e) f))
+  pub spaced : IsSpaced w.tree w.scope.names (type_of_field w.tree (type_of_element w.scope t e) f)
   pub known : known_type_after_step w.tree (field_of (type_of_element w.scope t e) f) (type_of_field w.tree (type_of_element w.scope t e) f)
       ≡ type_of_field w.tree (type_of_element w.scope t e) f
 
@@ -209,6 +212,7 @@ module _ (handing keeping : Bool) (w : Where) (sound : IsSound w.tree) (m : Mark
         field = first_below (λ (p : Param). bytes_eq p.name f) (space_at w.tree sp).fields there;
         held = holds.held;
         among = holds.among;
+        spaced = holds.spaced;
         known = ap (λ b. type_unless (b || not (has_field w.tree sp f) || false || false) (type_of_field w.tree (type_of_element w.scope t e) f)) (sound.fields sp f there)
             ∙ ap (λ b. type_unless (not b || false || false) (type_of_field w.tree (type_of_element w.scope t e) f)) there;
       }
@@ -237,12 +241,13 @@ pub record IsAimed (keeping : Bool) (marked : FieldMarks) (tree : Tree) (bs : Li
   pub field : field_place tree (space_in t) f < length (space_at tree (space_in t)).fields
   pub held : IsHeld keeping marked f (field_term tree (space_in t) (field_place tree (space_in t) f)) (type_of_field tree t f)
   pub holds : AreAmong bs (space_in (type_of_field tree t f)) (reaches_of (type_of_field tree t f))
+  pub spaced : IsSpaced tree bs (type_of_field tree t f)
   pub known : known_type_after_step tree (field_of t f) (type_of_field tree t f) ≡ type_of_field tree t f
 
 module _ (handing keeping : Bool) (tree : Tree) (sound : IsSound tree) (m : Marked) (local : IsLocalTree handing keeping m tree) (bs : List Bound)
     (names : AllKept keeping m bs) (n : Name) (i : ℕ) where
   -- a field is taken of a pointer
-  aimed_value : (t : StaticType) (f : Name) → IsSpaced tree bs t → IsValue keeping bs t → first_of_taking tree (field_of t f) ≡ None → IsAimed keeping (fields_of m) tree bs t f
+  pub aimed_value : (t : StaticType) (f : Name) → IsSpaced tree bs t → IsValue keeping bs t → first_of_taking tree (field_of t f) ≡ None → IsAimed keeping (fields_of m) tree bs t f
   aimed_value _ f spaced (value_simple _ (simple_integer w)) e = absurd (no_way (taking_told tree (field_of (integer_type w) f) e).1)
   aimed_value _ f spaced (value_simple _ simple_truth) e = absurd (no_way (taking_told tree (field_of truth_type f) e).1)
   aimed_value _ f spaced (value_simple _ (simple_space k)) e = absurd (no_way (taking_told tree (field_of (ispace_type k) f) e).1)
@@ -264,6 +269,7 @@ module _ (handing keeping : Bool) (tree : Tree) (sound : IsSound tree) (m : Mark
         field = first_below (λ (p : Param). bytes_eq p.name f) (space_at tree sp).fields there;
         held = found.held;
         holds = found.among;
+        spaced = found.spaced;
         known = ap (λ b. type_unless (b || not (has_field tree sp f) || false || has_wild rs) (type_of_field tree t f)) (sound.fields sp f there)
             ∙ ap (λ b. type_unless (not b || false || has_wild rs) (type_of_field tree t f)) there
             ∙ ap (λ b. type_unless b (type_of_field tree t f)) certain;

@@ -71,6 +71,11 @@ module _ (tree : Tree) (task : TaskTree) (sound : IsSound tree) (sound_task : Is
     sound_result = sound_task.result;
   }
 
+  -- what an expression gives
+  pub expression_spaced : (s : Scope) (e : Expression) → IsSoundScope s → KnowsHead tree task s → AreKept (parts_of_expression e) →
+      first_in_expression tree task s e ≡ None → IsSpaced tree s.names (type_of tree s e)
+  expression_spaced s e scope head k none = type_spaced task [] (here s) (place_here s scope head).place e (all_kept (parts_of_expression e) k) none
+
   -- behind a variable
   pub head_after : (s : Scope) (n : Name) (t : Option TypeTerm) (i : Option Initializer) → IsSoundScope s → KnowsHead tree task s →
       first_of_form tree task s (var_form n t i) ≡ None → AreKept (parts_of_form (var_form n t i)) → KnowsFacts tree task (scope_after tree s (var_form n t i)) →
@@ -98,8 +103,7 @@ module _ (tree : Tree) (task : TaskTree) (sound : IsSound tree) (sound_task : Is
       KnowsFacts tree task (with_name s n (taken_from (type_of tree s domain)) true) →
       KnowsHead tree task (with_name s n (taken_from (type_of tree s domain)) true)
   head_in_loop s n domain scope head none k facts = loop_begins s n (taken_from (type_of tree s domain)) scope head
-      (taken_spaced tree s.names (type_of tree s domain)
-      (type_spaced task [] (here s) (place_here s scope head).place domain (all_kept (parts_of_expression domain) k) none)) facts
+      (taken_spaced tree s.names (type_of tree s domain) (expression_spaced s domain scope head k none)) facts
 
   scalar_spaced : (s : Scope) (t : StaticType) → IsScalar t → IsSpaced tree s.names t
   scalar_spaced s _ (scalar_integer w) = no_arguments tree s.names _ tt

@@ -90,9 +90,11 @@ pointing_part forms w (access_expr n (at_step e (field_step f no_step))) fine at
 pointing_part forms w (access_expr n (field_step f no_step)) fine at = inl (there_no_part w.scope.names _ (field_behind w n f) at)
 pointing_part forms w (null_expr t) fine at = inl (written_no_part w.scope.names (typed w (null_expr t)) fine.1)
 pointing_part forms w (cast_expr t e) fine at = inl (written_no_part w.scope.names (typed w (cast_expr t e)) fine.1)
-pointing_part forms w (access_expr n (field_step _ (field_step _ _))) fine at = absurd at
+pointing_part forms w (access_expr n (field_step f (field_step g rest))) fine at =
+    inl (there_no_part w.scope.names _ (typed w (access_expr n (field_step f (field_step g rest)))) at)
 pointing_part forms w (access_expr n (field_step _ (at_step _ _))) fine at = absurd at
-pointing_part forms w (access_expr n (at_step _ (field_step _ (field_step _ _)))) fine at = absurd at
+pointing_part forms w (access_expr n (at_step e (field_step f (field_step g rest)))) fine at =
+    inl (there_no_part w.scope.names _ (typed w (access_expr n (at_step e (field_step f (field_step g rest))))) at)
 pointing_part forms w (access_expr n (at_step _ (field_step _ (at_step _ _)))) fine at = absurd at
 pointing_part forms w (access_expr n (at_step _ (at_step _ _))) fine at = absurd at
 pointing_part forms w (number_expr _ _) fine at = absurd at

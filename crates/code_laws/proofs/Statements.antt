@@ -1,6 +1,7 @@
 -- The code of a statement does what the statement means.
 use Rattle.code_laws.proofs.Behind.{folds_behind, sets_behind}
 use Rattle.code_laws.proofs.Moving.{assigned_runs, assigns}
+use Rattle.code_laws.proofs.FurtherWrites.{behind_reduced, behind_set, element_reduced, element_set}
 use Rattle.code_laws.proofs.Domains.{domains_run}
 use Rattle.code_laws.proofs.PointerForms.{begins_run, declares_run, itself_run}
 use Rattle.code_laws.proofs.Pointing.{region_pointed}
@@ -278,9 +279,9 @@ module _ (x : Setting) (params slots : ℕ) (fit : SlotsFit x slots) (counts : C
         (valued (past (expr_code w 0 e) pc) []) (Good x params slots fit aside h t) _ (value h e s) _
         (value_runs x params slots fit aside h 0 low e s pc [] i fine.3 g f.0)
         (λ v s1 j k. folds_behind x params slots fit aside o h n f2 (field_behind w n f2) t v s1 _ j fine.4 fine.5 fine.2 fine.1 k.0 k.1 f.1)
-    form_runs aside h (assign_form n (field_step _ (field_step _ _)) how.Set e) s pc i low fine g f = absurd fine
+    form_runs aside h (assign_form n (field_step f2 (field_step f3 rest)) how.Set e) s pc i low fine g f = behind_set x params slots fit aside counts h n f2 f3 rest e s pc i low fine g f
     form_runs aside h (assign_form n (field_step _ (at_step _ _)) how.Set e) s pc i low fine g f = absurd fine
-    form_runs aside h (assign_form n (field_step _ (field_step _ _)) (how.Reduce o) e) s pc i low fine g f = absurd fine
+    form_runs aside h (assign_form n (field_step f2 (field_step f3 rest)) (how.Reduce o) e) s pc i low fine g f = behind_reduced x params slots fit aside counts o h n f2 f3 rest e s pc i low fine g f
     form_runs aside h (assign_form n (field_step _ (at_step _ _)) (how.Reduce o) e) s pc i low fine g f = absurd fine
     form_runs aside h (assign_form n (at_step y (field_step f2 no_step)) how.Set e) s pc i low fine g f =
         let w = where_of params h in
@@ -307,11 +308,11 @@ module _ (x : Setting) (params slots : ℕ) (fit : SlotsFit x slots) (counts : C
         (any_field x.forms.keeps w n f2 u fine.6) fine.7 fine.1 fine.0 k.0 k.1 f.1)
     form_runs aside h (assign_form n (at_step _ no_step) how.Set e) s pc i low fine g f = absurd fine
     form_runs aside h (assign_form n (at_step _ (at_step _ _)) how.Set e) s pc i low fine g f = absurd fine
-    form_runs aside h (assign_form n (at_step _ (field_step _ (field_step _ _))) how.Set e) s pc i low fine g f = absurd fine
+    form_runs aside h (assign_form n (at_step y (field_step f2 (field_step f3 rest))) how.Set e) s pc i low fine g f = element_set x params slots fit aside counts h n y f2 f3 rest e s pc i low fine g f
     form_runs aside h (assign_form n (at_step _ (field_step _ (at_step _ _))) how.Set e) s pc i low fine g f = absurd fine
     form_runs aside h (assign_form n (at_step _ no_step) (how.Reduce o) e) s pc i low fine g f = absurd fine
     form_runs aside h (assign_form n (at_step _ (at_step _ _)) (how.Reduce o) e) s pc i low fine g f = absurd fine
-    form_runs aside h (assign_form n (at_step _ (field_step _ (field_step _ _))) (how.Reduce o) e) s pc i low fine g f = absurd fine
+    form_runs aside h (assign_form n (at_step y (field_step f2 (field_step f3 rest))) (how.Reduce o) e) s pc i low fine g f = element_reduced x params slots fit aside counts o h n y f2 f3 rest e s pc i low fine g f
     form_runs aside h (assign_form n (at_step _ (field_step _ (at_step _ _))) (how.Reduce o) e) s pc i low fine g f = absurd fine
     form_runs aside h (fill_form r fields e) s pc i low fine g f =
         let t = typed (where_of params h) e in

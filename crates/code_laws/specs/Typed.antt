@@ -5,6 +5,7 @@ use Rattle.std.specs.Prelude.{◌≡◌, ◌⊎◌, Bool, ℕ, suc, ◌<◌, ◌
 use Rattle.lane_kernels.specs.Numbers.{FitsWidth}
 use Rattle.lane_kernels.specs.declared.numbers.Mode.{Mode}
 use Rattle.lane_kernels.specs.declared.numbers.Mode.TheVariants as mode
+use Rattle.lane_kernels.specs.declared.numbers.Op.{Op}
 use Rattle.regent_tree.specs.declared.expression.Arithmetic.TheVariants.{Subtract}
 use Rattle.regent_tree.specs.declared.expression.Operator.TheVariants.{Or, And, Compare, Compute}
 use Rattle.regent_tree.specs.declared.statement.How.TheVariants as how
@@ -15,9 +16,10 @@ use Rattle.regent_tree.specs.declared.typing.StaticType.TheVariants.{Partition a
 use Rattle.regent_tree.specs.Accesses.{args_in, space_in}
 use Rattle.regent_tree.specs.StaticTypes.{Reach, field_kind, field_place, field_term, field_type, place_of_space, space_at, spaces_of, task_named}
 use Rattle.regent_tree.specs.Lookup.{is_bound}
+use Rattle.regent_tree.specs.Execution.{before_last, last_field}
 use Rattle.regent_tree.specs.Scopes.{scope_of}
 use Rattle.regent_tree.specs.Numbers.{distance}
-use Rattle.regent_tree.specs.Syntax.{a_statement, Form, var_form, if_form, while_form, for_in_form, for_to_form, do_form, assert_form, print_form, assign_form, return_form, Block, no_statement, then_statement, Arms, no_arm, an_arm, Otherwise, no_else, else_block, both_initializer, by_field_initializer, either_initializer, equal_initializer, image_initializer, preimage_initializer, plain_initializer, region_initializer, Name, Tree, fill_form, call_form, call_expr, Expression, number_expr, truth_expr, chain_expr, prefix_expr, access_expr, convert_expr, Expressions, no_expr, an_expr, Links, no_link, a_link, no_step, field_step, at_step, space_expr, is_null_expr, null_expr, cast_expr}
+use Rattle.regent_tree.specs.Syntax.{a_statement, Form, var_form, if_form, while_form, for_in_form, for_to_form, do_form, assert_form, print_form, assign_form, return_form, Block, no_statement, then_statement, Arms, no_arm, an_arm, Otherwise, no_else, else_block, both_initializer, by_field_initializer, either_initializer, equal_initializer, image_initializer, preimage_initializer, plain_initializer, region_initializer, Name, Tree, fill_form, call_form, call_expr, Expression, number_expr, truth_expr, chain_expr, prefix_expr, access_expr, convert_expr, Expressions, no_expr, an_expr, Links, no_link, a_link, Steps, no_step, field_step, at_step, space_expr, is_null_expr, null_expr, cast_expr}
 use Rattle.regent_tree.specs.Scopes.{bound_as}
 use Rattle.regent_tree.specs.Typing.{arithmetic_type, has_wild, is_disjoint, operated, param_types, params_at, parent_of, reaches_of, result_type, taken_from, type_of_element, type_of_field, var_type}
 use Rattle.code_laws.specs.Arguments.{AreDivided, AreMet, ArePaired, AreParted, IsCutName, IsHanded, IsHandedPart, IsParent, LiesBelow, parent_bound}
@@ -31,6 +33,7 @@ use Rattle.code_rules.specs.Slots.{Where, typed, bound, slot_named, slots_of}
 use Rattle.code_rules.specs.Expressions.{count}
 use Rattle.code_rules.specs.Statements.{on_line, after_form, after_arm, after_arms, looping}
 use Rattle.check_laws.specs.SoundScopes.{Falls}
+use Rattle.local_form.specs.LocalForm.{are_fields}
 use Rattle.check_rules.specs.rules.Formats.{numbers_in}
 
 -- A name in scope has a region, and the field is one of its field space, which keeps values of a type.
@@ -118,7 +121,9 @@ abbrev pub IsPointing : Where → Expression → Type 0
 IsPointing w (access_expr n no_step) = Falls w.scope.next w.scope.names
 IsPointing w (access_expr n (at_step e no_step)) = Unit {0}
 IsPointing w (access_expr n (at_step e (field_step f no_step))) = AreReachable w (element_field w n e f)
+IsPointing w (access_expr n (at_step e (field_step f (field_step g rest)))) = AreReachable w (typed w (access_expr n (at_step e (field_step f (field_step g rest)))))
 IsPointing w (access_expr n (field_step f no_step)) = AreReachable w (field_behind w n f)
+IsPointing w (access_expr n (field_step f (field_step g rest))) = AreReachable w (typed w (access_expr n (field_step f (field_step g rest))))
 IsPointing w (null_expr t) = Unit {0}
 IsPointing w (cast_expr t e) = Unit {0}
 IsPointing w e = ⊥
@@ -179,6 +184,21 @@ MayReach forms w (Some (term.Child p c) ∷ rs) field a =
     × MayReach forms w rs field a
 MayReach forms w (None ∷ rs) field a = MayReach forms w rs field a
 
+-- the access may be made to a field of what a pointer of a type goes to, whose regions are in scope
+pub record IsFurther (forms : Forms) (w : Where) (t : StaticType) (f : Name) (a : Mode) : Type 0 where
+  pub pointer : IsPointer t
+  pub reachable : AreReachable w t
+  pub certain : has_wild (reaches_of t) ≡ false
+  pub field : field_place w.tree (space_in t) f < length (space_at w.tree (space_in t)).fields
+  pub keeps : FieldKeeps (field_term w.tree (space_in t) (field_place w.tree (space_in t) f)) (type_of_field w.tree t f)
+  pub may : MayReach forms w (reaches_of t) (field_place w.tree (space_in t) f) a
+
+-- one field is read after the other, each of what the field before it goes to
+abbrev pub AreFurther : Forms → Where → StaticType → Steps → Type 0
+AreFurther forms w t no_step = Unit {0}
+AreFurther forms w t (field_step f rest) = IsFurther forms w t f mode.Read × AreFurther forms w (type_of_field w.tree t f) rest
+AreFurther forms w t (at_step e rest) = ⊥
+
 -- so it may to a field through a name's pointer
 abbrev pub MayGo : Forms → Where → Name → Name → Mode → Type 0
 MayGo forms w n f a = MayReach forms w (reaches_of (bound w n).static_type)
@@ -210,6 +230,8 @@ abbrev mutual
       (is_bound w.scope.names n ≡ true) × IsRead forms.keeps (bound w n).static_type
   IsTyped forms w (access_expr n (field_step f no_step)) = (forms.keeps ≡ true)
       × ((IsBehind w n f (field_behind w n f) × MayGo forms w n f mode.Read) ⊎ IsCutName w n)
+  IsTyped forms w (access_expr n (field_step f (field_step g rest))) = (forms.keeps ≡ true)
+      × IsBehind w n f (field_behind w n f) × MayGo forms w n f mode.Read × AreFurther forms w (field_behind w n f) (field_step g rest)
   IsTyped forms w (access_expr n (at_step e no_step)) = (forms.keeps ≡ true) × IsTyped forms w e × IsCounting (typed w e)
       × (is_bound w.scope.names n ≡ true) × IsRegion (bound w n).static_type
       × IsOwnRegion w (bound w n) (bound w n).static_type
@@ -220,6 +242,10 @@ abbrev mutual
   IsTyped forms w (access_expr n (at_step e (field_step f no_step))) = IsTyped forms w e × CountsAs forms.keeps (typed w e)
       × GoesThrough w n e × IsFieldOf forms.keeps w n f (element_field w n e f)
       × MayTouch forms w n (field_place w.tree (space_in (bound w n).static_type) f) mode.Read
+  IsTyped forms w (access_expr n (at_step e (field_step f (field_step g rest)))) = (forms.keeps ≡ true) × IsTyped forms w e
+      × CountsAs forms.keeps (typed w e) × GoesThrough w n e × IsFieldOf forms.keeps w n f (element_field w n e f)
+      × MayTouch forms w n (field_place w.tree (space_in (bound w n).static_type) f) mode.Read
+      × AreFurther forms w (element_field w n e f) (field_step g rest)
   IsTyped forms w (call_expr task args) = (forms.calls ≡ true)
       × IsScalar (result_type w.tree (task_named w.tree task).result) × IsCallable forms w task args
       × ArePassed forms w (params_at w.tree w.scope (task_named w.tree task) args)
@@ -264,6 +290,20 @@ AreFilled keeps w r from [] = Unit {0}
 AreFilled keeps w r from (f ∷ fs) =
     let out = field_type w.tree (space_in (bound w r).static_type) (args_in (bound w r).static_type) f in
     FillsInto keeps from out × IsFieldOf keeps w r f out × AreFilled keeps w r from fs
+
+-- the last field of an access is one of what the fields before it go to, of which these stand behind the first two
+abbrev pub IsThrough : Forms → Where → Name → Steps → Steps → Mode → Type 0
+IsThrough forms w n steps rest a = (are_fields rest ≡ true) × IsTyped forms w (access_expr n (before_last steps))
+    × IsFurther forms w (typed w (access_expr n (before_last steps))) (last_field steps) a
+
+-- so it is assigned, or reduced
+abbrev pub IsSetThrough : Forms → Where → Name → Steps → Steps → Expression → Type 0
+IsSetThrough forms w n steps rest y = (forms.keeps ≡ true) × Assigned (typed w y) (typed w (access_expr n steps)) × IsTyped forms w y
+    × IsThrough forms w n steps rest mode.Write
+
+abbrev pub IsReducedThrough : Forms → Where → Name → Steps → Steps → Op → Expression → Type 0
+IsReducedThrough forms w n steps rest o y = (forms.keeps ≡ true) × IsInteger (typed w y) × IsInteger (typed w (access_expr n steps))
+    × IsTyped forms w y × IsThrough forms w n steps rest (mode.Reduce o)
 
 -- a field space that is there and has no more fields than a root may have
 pub record IsMakable (tree : Tree) (space : ℕ) : Type 0 where
@@ -318,6 +358,10 @@ abbrev mutual
   IsTypedForm forms w (assign_form n (field_step f no_step) (how.Reduce o) y) = (forms.keeps ≡ true)
       × IsInteger (typed w y) × IsInteger (field_behind w n f) × IsTyped forms w y × IsBehind w n f (field_behind w n f)
       × MayGo forms w n f (mode.Reduce o)
+  IsTypedForm forms w (assign_form n (field_step f (field_step g rest)) how.Set y) = IsSetThrough forms w n (field_step f (field_step g rest)) rest y
+  IsTypedForm forms w (assign_form n (field_step f (field_step g rest)) (how.Reduce o) y) = IsReducedThrough forms w n (field_step f (field_step g rest)) rest o y
+  IsTypedForm forms w (assign_form n (at_step e (field_step f (field_step g rest))) how.Set y) = IsSetThrough forms w n (at_step e (field_step f (field_step g rest))) rest y
+  IsTypedForm forms w (assign_form n (at_step e (field_step f (field_step g rest))) (how.Reduce o) y) = IsReducedThrough forms w n (at_step e (field_step f (field_step g rest))) rest o y
   IsTypedForm forms w (assign_form n (at_step e (field_step f no_step)) (how.Reduce o) y) =
       IsInteger (typed w y) × IsInteger (element_field w n e f) × IsTyped forms w y × IsTyped forms w e
       × CountsAs forms.keeps (typed w e) × GoesThrough w n e × IsFieldOf forms.keeps w n f (element_field w n e f)

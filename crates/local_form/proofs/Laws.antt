@@ -18,7 +18,7 @@ use Rattle.regent_tree.specs.PlainProgram.{arms_in, block_in}
 use Rattle.regent_tree.specs.Syntax.{Expression, Name, Steps, a_link, access_expr, assign_form, at_step, chain_expr, field_step, no_step}
 use Rattle.regent_tree.proofs.Rows.{arm_read}
 use Rattle.local_form.specs.LocalForm.{are_local_arms, is_local_block, is_local_form}
-use Rattle.local_form.specs.Expressions.{Marked, gives_pointer, is_among, is_local_expression, is_name, is_part, is_pointing, takes_partition_off}
+use Rattle.local_form.specs.Expressions.{Marked, are_fields, gives_pointer, is_among, is_local_expression, is_name, is_part, takes_partition_off}
 use Rattle.local_form.specs.Marks.{marked_by_arms, marked_in}
 use Rattle.local_form.specs.Seen.{assigns_beside, is_behind, is_behind_read, is_beside, is_local_arm}
 
@@ -41,54 +41,6 @@ alone_without_steps n [] = refl
 alone_without_steps n (Field f ∷ rest) = sym (not_none (length rest))
 alone_without_steps n (At e ∷ rest) = sym (not_none (length rest))
 
--- those that are no field at a point
-
-pub three_beside : (m : Marked) (n : Name) (steps : List Step) → 3 ≤ length steps → false ≡ is_beside m n (steps_in steps)
-three_beside m n [] many = absurd (omega (arith, many))
-three_beside m n (Field f ∷ rest) many = refl
-three_beside m n (At e ∷ []) many = absurd (omega (arith, many))
-three_beside m n (At e ∷ At d ∷ rest) many = refl
-three_beside m n (At e ∷ Field f ∷ []) many = absurd (omega (arith, many))
-three_beside m n (At e ∷ Field f ∷ Field g ∷ rest) many = refl
-three_beside m n (At e ∷ Field f ∷ At d ∷ rest) many = refl
-
--- the same of what is assigned to
-pub one_assigned : (m : Marked) (n : Name) (steps : List Step) (h : How) (e : Expression) → 1 ≤ length steps → length steps < 2 →
-    false ≡ assigns_beside m n (steps_in steps) h e
-one_assigned m n [] h e some few = absurd (omega (arith, some))
-one_assigned m n (Field f ∷ rest) h e some few = refl
-one_assigned m n (At d ∷ []) h e some few = refl
-one_assigned m n (At d ∷ step ∷ rest) h e some few = absurd (omega (arith, few))
-
-pub three_assigned : (m : Marked) (n : Name) (steps : List Step) (h : How) (e : Expression) → 3 ≤ length steps →
-    false ≡ assigns_beside m n (steps_in steps) h e
-three_assigned m n [] h e many = absurd (omega (arith, many))
-three_assigned m n (Field f ∷ rest) h e many = refl
-three_assigned m n (At d ∷ []) h e many = absurd (omega (arith, many))
-three_assigned m n (At d ∷ At c ∷ rest) h e many = refl
-three_assigned m n (At d ∷ Field f ∷ []) h e many = absurd (omega (arith, many))
-three_assigned m n (At d ∷ Field f ∷ Field g ∷ rest) h e many = refl
-three_assigned m n (At d ∷ Field f ∷ At c ∷ rest) h e many = refl
-
--- and those that aren't one field
-pub none_behind : (m : Marked) (n : Name) (steps : List Step) → length steps < 1 → false ≡ is_behind m n (steps_in steps)
-none_behind m n [] few = refl
-none_behind m n (step ∷ rest) few = absurd (omega (arith, few))
-
-pub two_behind : (m : Marked) (n : Name) (steps : List Step) → 2 ≤ length steps → false ≡ is_behind m n (steps_in steps)
-two_behind m n [] many = absurd (omega (arith, many))
-two_behind m n (Field f ∷ []) many = absurd (omega (arith, many))
-two_behind m n (Field f ∷ Field g ∷ rest) many = refl
-two_behind m n (Field f ∷ At d ∷ rest) many = refl
-two_behind m n (At e ∷ rest) many = refl
-
-pub two_read : (m : Marked) (n : Name) (steps : List Step) → 2 ≤ length steps → false ≡ is_behind_read m n (steps_in steps)
-two_read m n [] many = absurd (omega (arith, many))
-two_read m n (Field f ∷ []) many = absurd (omega (arith, many))
-two_read m n (Field f ∷ Field g ∷ rest) many = refl
-two_read m n (Field f ∷ At d ∷ rest) many = refl
-two_read m n (At e ∷ rest) many = refl
-
 -- no part has no step, or more than one
 pub none_part : (m : Marked) (n : Name) (steps : List Step) → length steps < 1 → false ≡ is_part m (access_expr n (steps_in steps))
 none_part m n [] few = refl
@@ -101,70 +53,25 @@ two_part m n (At e ∷ []) many = absurd (omega (arith, many))
 two_part m n (At e ∷ Field g ∷ rest) many = refl
 two_part m n (At e ∷ At d ∷ rest) many = refl
 
--- no pointer has more steps than an element and its field
-pub two_points : (m : Marked) (n : Name) (steps : List Step) (d : Step) (f : Name) → 2 ≤ length steps → get_or steps 0 d ≡ Field f →
-    false ≡ gives_pointer m (access_expr n (steps_in steps))
-two_points m n [] d f many is = absurd (omega (arith, many))
-two_points m n (At e ∷ rest) d f many is = absurd cc
-two_points m n (Field g ∷ []) d f many is = absurd (omega (arith, many))
-two_points m n (Field g ∷ Field h ∷ rest) d f many is = refl
-two_points m n (Field g ∷ At e ∷ rest) d f many is = refl
-
-pub three_points : (m : Marked) (n : Name) (steps : List Step) → 3 ≤ length steps → false ≡ gives_pointer m (access_expr n (steps_in steps))
-three_points m n [] many = absurd (omega (arith, many))
-three_points m n (Field f ∷ []) many = absurd (omega (arith, many))
-three_points m n (Field f ∷ Field g ∷ rest) many = refl
-three_points m n (Field f ∷ At e ∷ rest) many = refl
-three_points m n (At e ∷ []) many = absurd (omega (arith, many))
-three_points m n (At e ∷ At d ∷ rest) many = refl
-three_points m n (At e ∷ Field g ∷ []) many = absurd (omega (arith, many))
-three_points m n (At e ∷ Field g ∷ Field h ∷ rest) many = refl
-three_points m n (At e ∷ Field g ∷ At d ∷ rest) many = refl
-
-pub two_pointing : (n : Name) (steps : List Step) (d : Step) (f : Name) → 2 ≤ length steps → get_or steps 0 d ≡ Field f →
-    false ≡ is_pointing (access_expr n (steps_in steps))
-two_pointing n [] d f many is = absurd (omega (arith, many))
-two_pointing n (At e ∷ rest) d f many is = absurd cc
-two_pointing n (Field g ∷ []) d f many is = absurd (omega (arith, many))
-two_pointing n (Field g ∷ Field h ∷ rest) d f many is = refl
-two_pointing n (Field g ∷ At e ∷ rest) d f many is = refl
-
-pub three_pointing : (n : Name) (steps : List Step) → 3 ≤ length steps → false ≡ is_pointing (access_expr n (steps_in steps))
-three_pointing n [] many = absurd (omega (arith, many))
-three_pointing n (Field f ∷ []) many = absurd (omega (arith, many))
-three_pointing n (Field f ∷ Field g ∷ rest) many = refl
-three_pointing n (Field f ∷ At e ∷ rest) many = refl
-three_pointing n (At e ∷ []) many = absurd (omega (arith, many))
-three_pointing n (At e ∷ At d ∷ rest) many = refl
-three_pointing n (At e ∷ Field g ∷ []) many = absurd (omega (arith, many))
-three_pointing n (At e ∷ Field g ∷ Field h ∷ rest) many = refl
-three_pointing n (At e ∷ Field g ∷ At d ∷ rest) many = refl
-
 -- an access is behind a pointer or a partition, or beside them
 pub either_access : (m : Marked) (n : Name) (steps : Steps) →
     (is_behind_read m n steps || is_beside m n steps) ≡ is_local_expression m (access_expr n steps)
 either_access m n no_step = refl
 either_access m n (field_step f no_step) = or_none (is_among m.pointers n || is_among m.partitions n)
-either_access m n (field_step f (field_step _ _)) = refl
-either_access m n (field_step f (at_step _ _)) = refl
+either_access m n (field_step f (field_step g rest)) = or_none (is_among m.pointers n && are_fields (field_step g rest))
+either_access m n (field_step f (at_step e rest)) = or_none (is_among m.pointers n && are_fields (at_step e rest))
 either_access m n (at_step e no_step) = refl
 either_access m n (at_step e (at_step _ _)) = refl
-either_access m n (at_step e (field_step f no_step)) = refl
-either_access m n (at_step e (field_step f (field_step _ _))) = refl
-either_access m n (at_step e (field_step f (at_step _ _))) = refl
+either_access m n (at_step e (field_step f rest)) = refl
 
 pub either_assigned : (m : Marked) (n : Name) (steps : Steps) (h : How) (e : Expression) →
     (assigns_beside m n steps h e || (is_behind m n steps && is_local_expression m e)) ≡ is_local_form m (assign_form n steps h e)
 either_assigned m n no_step how.Set e = or_none _
 either_assigned m n no_step (how.Reduce o) e = or_none _
-either_assigned m n (field_step f no_step) h e = refl
-either_assigned m n (field_step f (field_step _ _)) h e = refl
-either_assigned m n (field_step f (at_step _ _)) h e = refl
+either_assigned m n (field_step f rest) h e = refl
 either_assigned m n (at_step d no_step) h e = refl
 either_assigned m n (at_step d (at_step _ _)) h e = refl
-either_assigned m n (at_step d (field_step f no_step)) h e = or_none _
-either_assigned m n (at_step d (field_step f (field_step _ _))) h e = refl
-either_assigned m n (at_step d (field_step f (at_step _ _))) h e = refl
+either_assigned m n (at_step d (field_step f rest)) h e = or_none _
 
 -- a chain of further members gives no pointer
 pub chain_gives : (m : Marked) (first : Expression) (links : List Link) → 1 ≤ length links → false ≡ gives_pointer m (chain_expr first (links_in links))

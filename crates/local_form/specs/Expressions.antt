@@ -2,7 +2,7 @@
 -- which such a task may have, by what its names may stand for.
 use Rattle.std.specs.Prelude.{Bool, true, false, List, [], ◌∷◌, bytes_eq, not, ◌&&◌, ◌||◌}
 use Rattle.std.specs.List.{list_all, list_any}
-use Rattle.regent_tree.specs.Syntax.{Expression, Expressions, Links, Name, a_link, access_expr, an_expr, at_step, call_expr, cast_expr, chain_expr, convert_expr, field_step, is_null_expr, no_expr, no_link, no_step, null_expr, number_expr, prefix_expr, space_expr, truth_expr}
+use Rattle.regent_tree.specs.Syntax.{Expression, Expressions, Links, Name, Steps, a_link, access_expr, an_expr, at_step, call_expr, cast_expr, chain_expr, convert_expr, field_step, is_null_expr, no_expr, no_link, no_step, null_expr, number_expr, prefix_expr, space_expr, truth_expr}
 use Rattle.regent_tree.specs.declared.expression.Arithmetic.TheVariants.{Subtract}
 use Rattle.regent_tree.specs.declared.expression.Operator.TheVariants.{Compute}
 use Rattle.regent_tree.specs.declared.types.NumberTerm.{NumberTerm}
@@ -32,6 +32,20 @@ is_among names n = list_any (λ m. bytes_eq m n) names
 abbrev pub is_kept_field : Marked → Name → Bool
 is_kept_field m f = is_among m.index_fields f || is_among m.pointer_fields f
 
+-- ---- steps
+
+-- fields alone: each is one of what the field before it goes to
+abbrev pub are_fields : Steps → Bool
+are_fields no_step = true
+are_fields (field_step f rest) = are_fields rest
+are_fields (at_step e rest) = false
+
+-- the last field of those that begin with one
+abbrev pub last_of : Name → Steps → Name
+last_of f no_step = f
+last_of f (field_step g rest) = last_of g rest
+last_of f (at_step e rest) = last_of f rest
+
 -- ---- expressions
 
 -- whether an expression gives a number or truth, and no index, index space or pointer
@@ -42,9 +56,9 @@ abbrev mutual
   gives_scalar m (chain_expr first rest) = links_give m (gives_scalar m first) rest
   gives_scalar m (prefix_expr signs e) = true
   gives_scalar m (access_expr n no_step) = not (is_among m.indices n)
-  gives_scalar m (access_expr n (at_step e (field_step f rest))) = not (is_kept_field m f)
+  gives_scalar m (access_expr n (at_step e (field_step f rest))) = not (is_kept_field m (last_of f rest))
   gives_scalar m (access_expr n (at_step e rest)) = false
-  gives_scalar m (access_expr n (field_step f rest)) = not (is_among m.partitions n) && not (is_kept_field m f)
+  gives_scalar m (access_expr n (field_step f rest)) = not (is_among m.partitions n) && not (is_kept_field m (last_of f rest))
   gives_scalar m (call_expr task args) = true
   gives_scalar m (convert_expr t e) = is_scalar_number t
   gives_scalar m (is_null_expr e) = true
@@ -77,19 +91,19 @@ gives_points m e = false
 abbrev pub gives_pointer : Marked → Expression → Bool
 gives_pointer m (access_expr n no_step) = is_among m.pointers n
 gives_pointer m (access_expr n (at_step e no_step)) = true
-gives_pointer m (access_expr n (at_step e (field_step f no_step))) = is_among m.pointer_fields f
-gives_pointer m (access_expr n (field_step f no_step)) = is_among m.pointer_fields f
+gives_pointer m (access_expr n (at_step e (field_step f rest))) = is_among m.pointer_fields (last_of f rest)
+gives_pointer m (access_expr n (field_step f rest)) = is_among m.pointer_fields (last_of f rest)
 gives_pointer m (null_expr t) = true
 gives_pointer m (cast_expr t e) = true
 gives_pointer m (chain_expr first no_link) = gives_pointer m first
 gives_pointer m e = false
 
--- a name that stands alone, an element, a field, null, or what is cast
+-- a name that stands alone, an element, a field, one of what a field goes to, null, or what is cast
 abbrev pub is_pointing : Expression → Bool
 is_pointing (access_expr n no_step) = true
 is_pointing (access_expr n (at_step e no_step)) = true
-is_pointing (access_expr n (at_step e (field_step f no_step))) = true
-is_pointing (access_expr n (field_step f no_step)) = true
+is_pointing (access_expr n (at_step e (field_step f rest))) = are_fields rest
+is_pointing (access_expr n (field_step f rest)) = are_fields rest
 is_pointing (null_expr t) = true
 is_pointing (cast_expr t e) = true
 is_pointing e = false
@@ -133,7 +147,7 @@ abbrev pub takes_value : Marked → Name → Bool
 takes_value m n = (m.keeps || not (is_among m.indices n)) && not (is_kept_apart m n)
 
 -- Numbers and truths, indices, index spaces and pointers, calls, elements of regions that have names and fields at points
--- of these, fields that a name's pointer goes to, null, casts, and the colours of partitions. A region itself stands in an argument
+-- of these, fields that a name's pointer goes to, those that a field's pointer goes to, null, casts, and the colours of partitions. A region itself stands in an argument
 -- alone, or is what a loop goes over; so does a part of a partition; and a prefix stands before numbers and truths.
 abbrev mutual
   pub is_local_expression : Marked → Expression → Bool
@@ -143,8 +157,9 @@ abbrev mutual
   is_local_expression m (prefix_expr signs e) = gives_scalar m e && is_local_expression m e
   is_local_expression m (access_expr n no_step) = not (is_kept_apart m n)
   is_local_expression m (access_expr n (at_step e no_step)) = takes_element m n && is_local_expression m e
-  is_local_expression m (access_expr n (at_step e (field_step f no_step))) = is_local_expression m e
+  is_local_expression m (access_expr n (at_step e (field_step f rest))) = is_local_expression m e && are_fields rest
   is_local_expression m (access_expr n (field_step f no_step)) = is_among m.pointers n || is_among m.partitions n
+  is_local_expression m (access_expr n (field_step f rest)) = is_among m.pointers n && are_fields rest
   is_local_expression m (call_expr task args) = are_local_arguments m args
   is_local_expression m (convert_expr t e) = converts_to m t && is_local_expression m e
   is_local_expression m (space_expr k e) = is_local_expression m e

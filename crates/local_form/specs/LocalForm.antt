@@ -12,7 +12,7 @@ use Rattle.regent_tree.specs.declared.types.Param.{Param}
 use Rattle.regent_tree.specs.declared.types.TypeTerm.{TypeTerm}
 use Rattle.regent_tree.specs.declared.types.TypeTerm.TheVariants as term
 use Rattle.scalar_form.specs.ScalarForm.{is_scalar_if_said, is_scalar_term}
-pub use Rattle.local_form.specs.Expressions.{Marked, are_local_arguments, are_local_expressions, are_local_links, converts_to, gives_pointer, gives_points, gives_scalar, goes_to_name, goes_to_names, is_among, is_difference, is_kept_apart, is_kept_field, is_local_expression, is_name, is_part, is_partition_name, is_pointing, is_region_name, links_give, takes_element, takes_partition_off, takes_value}
+pub use Rattle.local_form.specs.Expressions.{Marked, are_fields, are_local_arguments, are_local_expressions, are_local_links, converts_to, gives_pointer, gives_points, gives_scalar, goes_to_name, goes_to_names, is_among, is_difference, is_kept_apart, is_kept_field, is_local_expression, is_name, is_part, is_partition_name, is_pointing, is_region_name, last_of, links_give, takes_element, takes_partition_off, takes_value}
 pub use Rattle.local_form.specs.Marks.{is_index_or_space, is_index_term, is_partition_term, is_pointer_term, is_region_term, is_space_term, marked_by, marked_by_arms, marked_by_else, marked_by_item, marked_by_items, marked_by_task, marked_by_term, marked_by_value, marked_field, marked_fields, marked_in, marked_param, marked_params, unmarked, with_either, with_index, with_index_field, with_partition, with_pointer, with_pointer_field, with_region}
 
 -- ---- statements
@@ -66,9 +66,9 @@ abbrev mutual
   is_local_form m (call_form task args) = are_local_arguments m args
   is_local_form m (assign_form n no_step how.Set e) = takes_value m n && is_local_expression m e
   is_local_form m (assign_form n no_step (how.Reduce o) e) = is_local_expression m e
-  is_local_form m (assign_form n (at_step e (field_step f no_step)) h y) =
-      is_local_expression m e && is_local_expression m y
-  is_local_form m (assign_form n (field_step f no_step) h y) = is_among m.pointers n && is_local_expression m y
+  is_local_form m (assign_form n (at_step e (field_step f rest)) h y) =
+      (is_local_expression m e && are_fields rest) && is_local_expression m y
+  is_local_form m (assign_form n (field_step f rest) h y) = (is_among m.pointers n && are_fields rest) && is_local_expression m y
   is_local_form m (return_form None) = true
   is_local_form m (return_form (Some e)) = is_local_expression m e
   is_local_form m form = false

@@ -7,7 +7,7 @@ use Rattle.regent_tree.specs.Plain.{expression_of}
 use Rattle.regent_tree.specs.PlainProgram.{block_in}
 use Rattle.regent_tree.specs.Syntax.{Expression, Name, Steps, at_step, field_step, no_step}
 use Rattle.local_form.specs.LocalForm.{fills_apart, is_local_block}
-use Rattle.local_form.specs.Expressions.{Marked, gives_points, is_among, is_kept_apart, is_local_expression, is_name, is_part, takes_element, takes_value}
+use Rattle.local_form.specs.Expressions.{Marked, are_fields, gives_points, is_among, is_kept_apart, is_local_expression, is_name, is_part, takes_element, takes_value}
 use Rattle.local_form.specs.Marks.{with_either}
 
 abbrev pub is_local_arm : Marked → Arm → Bool
@@ -27,26 +27,30 @@ is_local_filling m fields e = fills_apart m fields e && is_local_expression m e
 
 -- ---- accesses
 
--- a field of what a name's pointer goes to
+-- a field of what a name's pointer goes to, with further ones behind it
 abbrev pub is_behind : Marked → Name → Steps → Bool
-is_behind m n (field_step f no_step) = is_among m.pointers n
+is_behind m n (field_step f rest) = is_among m.pointers n && are_fields rest
 is_behind m n steps = false
 
--- one that is read, or the colours of a name's partition
+-- behind one that is read stand further ones, or it is the colours of a name's partition
+abbrev pub goes_on : Marked → Name → Steps → Bool
+goes_on m n no_step = is_among m.pointers n || is_among m.partitions n
+goes_on m n rest = is_among m.pointers n && are_fields rest
+
 abbrev pub is_behind_read : Marked → Name → Steps → Bool
-is_behind_read m n (field_step f no_step) = is_among m.pointers n || is_among m.partitions n
+is_behind_read m n (field_step f rest) = goes_on m n rest
 is_behind_read m n steps = false
 
--- a name that is no region's and no partition's, an element, or a field at a point
+-- a name that is no region's and no partition's, an element, or a field at a point, with further ones behind it
 abbrev pub is_beside : Marked → Name → Steps → Bool
 is_beside m n no_step = not (is_kept_apart m n)
 is_beside m n (at_step e no_step) = takes_element m n && is_local_expression m e
-is_beside m n (at_step e (field_step f no_step)) = is_local_expression m e
+is_beside m n (at_step e (field_step f rest)) = is_local_expression m e && are_fields rest
 is_beside m n steps = false
 
 -- the same of what is assigned to, but for elements
 abbrev pub assigns_beside : Marked → Name → Steps → How → Expression → Bool
 assigns_beside m n no_step how.Set e = takes_value m n && is_local_expression m e
 assigns_beside m n no_step (how.Reduce o) e = is_local_expression m e
-assigns_beside m n (at_step e (field_step f no_step)) h y = is_local_expression m e && is_local_expression m y
+assigns_beside m n (at_step e (field_step f rest)) h y = (is_local_expression m e && are_fields rest) && is_local_expression m y
 assigns_beside m n steps h e = false

@@ -5,10 +5,11 @@ ghost use Rattle.regent_tree.specs.Plain.{expression_of, expressions_in, links_i
 ghost use Rattle.regent_tree.specs.Syntax.{access_expr};
 ghost use Rattle.local_form.specs.Expressions.{are_local_arguments, are_local_expressions, gives_points};
 ghost use Rattle.local_form.specs.Expressions.{are_local_links, is_local_expression, is_name, is_part, is_region_name};
-ghost use Rattle.local_form.specs.Seen.{is_behind, is_behind_read, is_beside, is_local_argument};
+ghost use Rattle.local_form.specs.Seen.{goes_on, is_behind, is_behind_read, is_beside, is_local_argument};
 
 use crate::giving::gives_scalar;
 use crate::marked::Marked;
+use crate::steps::are_fields;
 use crate::terms::goes_to_names;
 use regent_tree::{Expr, Link, Name, Step};
 
@@ -40,27 +41,38 @@ pub fn is_local_expression(marked: &Marked<'_>, e: &Expr) -> bool
     }
 }
 
-/// Whether an access is a field of what a name's pointer goes to.
+/// Whether an access is a field of what a name's pointer goes to, with further ones behind it.
 pub fn is_behind(marked: &Marked<'_>, name: &Name, steps: &[Step]) -> bool
     ensures { result ≡ is_behind marked.now name.now (steps_in steps.now) }
 {
     match steps {
-        [Step::Field(_)] => marked.is_pointer(name),
-        _ => false,
+        [Step::Field(_), rest @ ..] => marked.is_pointer(name) && are_fields(rest),
+        [] | [Step::At(_), ..] => false,
     }
 }
 
-/// Whether it is one, or the colours of a name's partition.
+/// Whether behind such a field stand further ones, or it is the colours of a name's partition.
+fn goes_on(marked: &Marked<'_>, name: &Name, rest: &[Step]) -> bool
+    ensures { result ≡ goes_on marked.now name.now (steps_in rest.now) }
+{
+    match rest {
+        [] => marked.is_pointer(name) || marked.is_partition(name),
+        [Step::Field(_), ..] | [Step::At(_), ..] => marked.is_pointer(name) && are_fields(rest),
+    }
+}
+
+/// Whether an access is one of these.
 fn is_behind_read(marked: &Marked<'_>, name: &Name, steps: &[Step]) -> bool
     ensures { result ≡ is_behind_read marked.now name.now (steps_in steps.now) }
 {
     match steps {
-        [Step::Field(_)] => marked.is_pointer(name) || marked.is_partition(name),
-        _ => false,
+        [Step::Field(_), rest @ ..] => goes_on(marked, name, rest),
+        [] | [Step::At(_), ..] => false,
     }
 }
 
-/// Whether it is a name that is no region's and no partition's, an element of a region, or a field at a point of one.
+/// Whether it is a name that is no region's and no partition's, an element of a region, or a field at a point of one, with
+/// further ones behind it.
 #[cycle(expression)]
 fn is_beside(marked: &Marked<'_>, name: &Name, steps: &[Step]) -> bool
     ensures { result ≡ is_beside marked.now name.now (steps_in steps.now) }
@@ -68,8 +80,10 @@ fn is_beside(marked: &Marked<'_>, name: &Name, steps: &[Step]) -> bool
     match steps {
         [] => !marked.is_kept_apart(name),
         [Step::At(place)] => marked.takes_element(name) && is_local_expression(marked, place),
-        [Step::At(place), Step::Field(_)] => is_local_expression(marked, place),
-        _ => false,
+        [Step::At(place), Step::Field(_), rest @ ..] => {
+            is_local_expression(marked, place) && are_fields(rest)
+        }
+        [Step::At(_), Step::At(_), ..] | [Step::Field(_), ..] => false,
     }
 }
 

@@ -6,19 +6,25 @@ ghost use Rattle.regent_tree.specs.Syntax.{access_expr, chain_expr};
 ghost use Rattle.local_form.specs.Expressions.{gives_pointer, gives_scalar, is_pointing, links_give};
 
 use crate::marked::Marked;
+use crate::steps::{are_fields, last_of};
 use regent_tree::{Expr, Link, Name, Operator, Step};
 use scalar_form::is_scalar_number;
 
-/// Whether an access gives a number or truth: a name that isn't marked, or a field that holds no indices and no pointers.
+/// Whether an access gives a number or truth: a name that isn't marked, or at last a field that holds no indices and no
+/// pointers.
 /// The colours of a partition are none, nor are elements.
 fn access_gives(marked: &Marked<'_>, name: &Name, steps: &[Step]) -> bool
     ensures { result ≡ gives_scalar marked.now (access_expr name.now (steps_in steps.now)) }
 {
     match steps {
         [] => !marked.is_index(name),
-        [Step::At(_), Step::Field(field), ..] => !marked.is_kept_field(field),
+        [Step::At(_), Step::Field(field), rest @ ..] => {
+            !marked.is_kept_field(last_of(field, rest))
+        }
         [Step::At(_), ..] => false,
-        [Step::Field(field), ..] => !marked.is_partition(name) && !marked.is_kept_field(field),
+        [Step::Field(field), rest @ ..] => {
+            !marked.is_partition(name) && !marked.is_kept_field(last_of(field, rest))
+        }
     }
 }
 
@@ -57,15 +63,19 @@ fn links_give(marked: &Marked<'_>, left: bool, links: &[Link]) -> bool
     gives
 }
 
-/// Whether an access may give a pointer: a name alone that may stand for one, an element, or a field that may hold one.
+/// Whether an access may give a pointer: a name alone that may stand for one, an element, or at last a field that may hold
+/// one.
 fn access_points(marked: &Marked<'_>, name: &Name, steps: &[Step]) -> bool
     ensures { result ≡ gives_pointer marked.now (access_expr name.now (steps_in steps.now)) }
 {
     match steps {
         [] => marked.is_pointer(name),
         [Step::At(_)] => true,
-        [Step::At(_), Step::Field(field)] | [Step::Field(field)] => marked.is_pointer_field(field),
-        _ => false,
+        [Step::At(_), Step::Field(field), rest @ ..] => {
+            marked.is_pointer_field(last_of(field, rest))
+        }
+        [Step::At(_), Step::At(_), ..] => false,
+        [Step::Field(field), rest @ ..] => marked.is_pointer_field(last_of(field, rest)),
     }
 }
 
@@ -94,13 +104,14 @@ fn chain_points(marked: &Marked<'_>, first: &Expr, links: &[Link]) -> bool
     }
 }
 
-/// Whether an access is a name alone, an element, or a field.
+/// Whether an access is a name alone, an element, or a field, with further ones behind it.
 fn access_is_pointing(name: &Name, steps: &[Step]) -> bool
     ensures { result ≡ is_pointing (access_expr name.now (steps_in steps.now)) }
 {
     match steps {
-        [] | [Step::At(_)] | [Step::At(_), Step::Field(_)] | [Step::Field(_)] => true,
-        _ => false,
+        [] | [Step::At(_)] => true,
+        [Step::At(_), Step::Field(_), rest @ ..] | [Step::Field(_), rest @ ..] => are_fields(rest),
+        [Step::At(_), Step::At(_), ..] => false,
     }
 }
 

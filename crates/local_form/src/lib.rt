@@ -9,6 +9,7 @@ mod marked;
 mod marking;
 mod program;
 mod statements;
+mod steps;
 mod terms;
 
 pub use program::is_local;

@@ -18,6 +18,7 @@ use crate::expressions::{
 };
 use crate::giving::{gives_pointer, gives_scalar, is_pointing};
 use crate::marked::Marked;
+use crate::steps::are_fields;
 use crate::terms::is_kept_term;
 use regent_tree::{Arm, Expr, How, Init, Name, Step, Stmt, TypeTerm, What};
 
@@ -85,10 +86,13 @@ fn assigns_beside(
     match (steps, how) {
         ([], How::Set) => { marked.takes_value(target) && is_local_expression(marked, value) }
         ([], How::Reduce(_)) => is_local_expression(marked, value),
-        ([Step::At(place), Step::Field(_)], _) => {
-            is_local_expression(marked, place) && is_local_expression(marked, value)
+        ([Step::At(place), Step::Field(_), rest @ ..], _) => {
+            is_local_expression(marked, place)
+                && are_fields(rest)
+                && is_local_expression(marked, value)
         }
-        _ => false,
+        ([Step::At(_)], _) | ([Step::At(_), Step::At(_), ..], _) => false,
+        ([Step::Field(_), ..], _) => false,
     }
 }
 

@@ -1,10 +1,7 @@
 use Rattle.std.proofs.Common.{◌∙◌, sym}
 use Rattle.regent_tree.proofs.Rows.{expressions_of_vec, links_of_vec, steps_of_vec}
-use Rattle.local_form.proofs.Laws.{second_tells, three_beside, two_part}
+use Rattle.local_form.proofs.Laws.{second_tells, two_part}
 use Rattle.local_form.proofs.expressions.+expression.Goals as goal
-
-pub is_beside-returns-in_default-4 : goal.is_beside-returns-in_default-4
-is_beside-returns-in_default-4 t c = three_beside c.args.marked.now c.args.name.now c.args.steps.now c.in_default.len_at_least
 
 pub is_local_expression-returns-then-is_local_expression : goal.is_local_expression-returns-then-is_local_expression
 is_local_expression-returns-then-is_local_expression t c =
