@@ -7,6 +7,8 @@ mod Backs
 mod Kept
 mod Given
 mod Steps
+mod Busy
+mod Between
 mod Pieces
 mod Parts
 mod Filled

@@ -3,7 +3,7 @@
 //! What is said stands under specs/. Each function has an empty body; its contract is a law.
 #![tactic(auto)]
 
-ghost use Rattle.journal_progress.specs.Claims.{SomeMayBeClaimed, TakenBackAsBefore};
+ghost use Rattle.journal_progress.specs.Claims.{SomeMayBeClaimed, TakenBackAsBefore, TakenBackWhereItWas};
 ghost use Rattle.journal_progress.specs.Laws.{NoneInProgressInterfere, UnfinishedAreListed};
 ghost use Rattle.journal_progress.specs.Parts.{HeldPartsAreApart, MovedFromMap};
 
@@ -35,4 +35,9 @@ pub fn some_may_be_claimed()
 /// A claim that is taken back leaves the board as it was.
 pub fn taken_back_as_before()
     ensures { TakenBackAsBefore }
+{}
+
+/// A claim that is taken back after other steps leaves its operation where it was.
+pub fn taken_back_where_it_was()
+    ensures { TakenBackWhereItWas }
 {}
