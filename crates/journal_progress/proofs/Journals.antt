@@ -30,14 +30,14 @@ use Rattle.board_trees.proofs.Beginning.{new_boards_show}
 use Rattle.journal_results.proofs.Journals.{Pictured, gives_show, pictured}
 use Rattle.progress_boards.proofs.Jobs.{jobs_filled_from_map, jobs_held_apart, jobs_in_progress_apart, jobs_issued_needed, jobs_some_ready}
 use Rattle.journal_progress.specs.Claims.{IsAsBefore, IsWhereItWas, SomeMayBeClaimed, TakenBackAsBefore, TakenBackWhereItWas, claimed_by, copies_by}
-use Rattle.journal_progress.specs.Laws.{NoneInProgressInterfere, UnfinishedAreListed}
+use Rattle.journal_progress.specs.Laws.{NoneInProgressInterfere, OwnRootsAreApart, UnfinishedAreListed}
 use Rattle.journal_progress.specs.Parts.{MovedFromMap, HeldPartsAreApart}
 use Rattle.journal_progress.proofs.Backs.{as_before, back_goes, claim_was_ready, is_claimed, replay_both}
 use Rattle.journal_progress.proofs.Between.{all_between, goes_back, is_taken, where_it_was}
 use Rattle.journal_progress.proofs.Filled.{filled_from_map}
 use Rattle.journal_progress.proofs.Parts.{held_apart}
 use Rattle.journal_progress.proofs.Places.{is_listed}
-use Rattle.journal_progress.proofs.Progress.{none_interfere, not_over}
+use Rattle.journal_progress.proofs.Progress.{none_interfere, none_with_own, not_over}
 use Rattle.journal_progress.proofs.Ready.{some_ready}
 use Rattle.journal_progress.proofs.Steps.{AllHoldApart, OpenHoldApart, no_child, step_apart}
 use Rattle.journal_progress.proofs.Waited.{goes_on, idles, stands_parked, there, within}
@@ -120,6 +120,12 @@ unfinished_are_listed job journal s e k still = ⊎_elim (λ p. is_listed job s 
 pub none_in_progress_interfere : NoneInProgressInterfere
 none_in_progress_interfere job journal s e x y c d ex ey xy yx = ⊎_elim
     (λ p. none_interfere job s p.1.board p.1.shows (jobs_in_progress_apart job p.0 p.1.steps p.1.board p.1.made) (jobs_issued_needed job p.0 p.1.steps p.1.board p.1.made) x y c d ex ey xy yx)
+    (λ q. absurd (void_over x.op.0 (ap (λ z. is_over (stage_at z x.op.0)) q ∙ not_over (stage_at s x.op.0) ex))) (is_pictured job journal s e)
+
+pub own_roots_are_apart : OwnRootsAreApart
+own_roots_are_apart job journal s e x y c d ex ey xy yx first second f g = ⊎_elim
+    (λ p. none_with_own job s p.1.board p.1.shows (jobs_in_progress_apart job p.0 p.1.steps p.1.board p.1.made) (jobs_issued_needed job p.0 p.1.steps p.1.board p.1.made)
+    x y c d ex ey xy yx first second f g)
     (λ q. absurd (void_over x.op.0 (ap (λ z. is_over (stage_at z x.op.0)) q ∙ not_over (stage_at s x.op.0) ex))) (is_pictured job journal s e)
 
 unfinished : (c : Bool) (o : Outcome) → cond c (Some o) None ≡ None → c ≡ false

@@ -2,6 +2,7 @@ mod Needs
 mod Listings
 mod Callers
 mod Places
+mod Own
 mod Progress
 mod Backs
 mod Kept

@@ -4,7 +4,7 @@
 #![tactic(auto)]
 
 ghost use Rattle.journal_progress.specs.Claims.{SomeMayBeClaimed, TakenBackAsBefore, TakenBackWhereItWas};
-ghost use Rattle.journal_progress.specs.Laws.{NoneInProgressInterfere, UnfinishedAreListed};
+ghost use Rattle.journal_progress.specs.Laws.{NoneInProgressInterfere, OwnRootsAreApart, UnfinishedAreListed};
 ghost use Rattle.journal_progress.specs.Parts.{HeldPartsAreApart, MovedFromMap};
 
 /// The graph lists each operation that isn't over but main.
@@ -15,6 +15,11 @@ pub fn unfinished_are_listed()
 /// Operations in progress, neither the other's ancestor, don't interfere.
 pub fn none_in_progress_interfere()
     ensures { NoneInProgressInterfere }
+{}
+
+/// Nor do they by what they need of roots that they made themselves.
+pub fn own_roots_are_apart()
+    ensures { OwnRootsAreApart }
 {}
 
 /// What an operation holds, and what it is being filled with, doesn't interfere with what its unfinished children need.
