@@ -5,11 +5,12 @@ use Rattle.std.proofs.lemmas.Option.{none-some, same_Some}
 use Rattle.logical_map.specs.Fills.{Filling, elements_of}
 use Rattle.dependence_graph.specs.Entries.{Knot}
 use Rattle.dependence_graph.specs.Graphs.{begun, parked_on}
-use Rattle.dependence_graph.specs.Knots.{all_done, is_idle, knot_at, no_knot}
+use Rattle.dependence_graph.specs.Knots.{all_done, is_idle, knot_at, no_knot, number}
 use Rattle.dependence_graph.specs.declared.stage.Stage.TheVariants as knot
 use Rattle.task_code.specs.declared.job.Job.{Job}
 use Rattle.run_journal.specs.declared.entry.Entry.{Entry}
-use Rattle.board_terms.specs.declared.claim.Claim.{Claim}
+use Rattle.run_journal.specs.declared.entry.StepKind.TheVariants.{Claim}
+use Rattle.board_terms.specs.declared.claim.Claim.{Claim as SeatClaim}
 use Rattle.board_terms.specs.declared.operation.Activity.{Activity}
 use Rattle.board_terms.specs.declared.operation.Activity.TheVariants as activity
 use Rattle.board_terms.specs.declared.operation.Operation.{Operation}
@@ -22,6 +23,12 @@ use Rattle.claimed_trees.proofs.Back.{parked}
 use Rattle.claimed_trees.proofs.Changed.{GoesOn, changes}
 use Rattle.journal_progress.specs.Claims.{IsAsBefore, claimed_by, copies_by}
 
+-- it is claimed by the seat
+abbrev pub IsOf : ℕ → Activity → Type 0
+IsOf seat (activity.Filling c f) = c.seat ≡ seat
+IsOf seat (activity.Out c b) = c.seat ≡ seat
+IsOf seat _ = ⊥
+
 module _ (job : Job) where
   pub replay_both : (xs ys : List Entry) (o : Option State) → replay_from job o (xs ++ ys) ≡ replay_from job (replay_from job o xs) ys
   replay_both [] ys o = refl
@@ -32,23 +39,18 @@ module _ (job : Job) where
   no_state (e ∷ es) = no_state es
 
   -- what was claimed was ready
-  pub was_ready : (s : State) (k seat n : ℕ) (t : State) → replay_from job (Some s) (claimed_by k seat n) ≡ Some t → may_be_claimed s k ≡ true
-  was_ready s k seat n t q = by_ready (may_be_claimed s k) q
+  pub claim_was_ready : (s : State) (k seat : ℕ) (es : List Entry) (t : State) → replay_from job (Some s) (record { kind = Claim; op = number k; seat = seat } ∷ es) ≡ Some t →
+      may_be_claimed s k ≡ true
+  claim_was_ready s k seat es t q = by_ready (may_be_claimed s k) q
     where
-      by_ready : (r : Bool) → replay_from job (cond r (Some (claim_made s k seat)) None) (copies_by k seat n) ≡ Some t → r ≡ true
+      by_ready : (r : Bool) → replay_from job (cond r (Some (claim_made s k seat)) None) es ≡ Some t → r ≡ true
       by_ready true r = refl
-      by_ready false r = absurd (none-some t (sym (no_state (copies_by k seat n)) ∙ r))
+      by_ready false r = absurd (none-some t (sym (no_state es) ∙ r))
 
   module _ (s : State) (k seat : ℕ) (within : k < length s.operations) where
     -- the claim's operation does this
     abbrev with_claim : Activity → State
     with_claim a = record (doing s k a) { waits = begun s.waits k; turns = suc s.turns }
-
-    -- it is claimed by the seat
-    abbrev IsOf : Activity → Type 0
-    IsOf (activity.Filling c f) = c.seat ≡ seat
-    IsOf (activity.Out c b) = c.seat ≡ seat
-    IsOf _ = ⊥
 
     row_is : (a : Activity) → operation_at (with_claim a) k ≡ record (operation_at s k) { activity = a }
     row_is a = get_or-set_same s.operations k (record (operation_at s k) { activity = a }) no_operation within
@@ -62,19 +64,19 @@ module _ (job : Job) where
     again a c = ap (λ os. record (with_claim a) { operations = os }) (rows_again a c)
 
     abbrev pub Claimed : State → Type 0
-    Claimed t = (a : Activity) × IsOf a × (t ≡ with_claim a)
+    Claimed t = (a : Activity) × IsOf seat a × (t ≡ with_claim a)
 
     -- ---- copies
 
-    behind_of : (t : State) (o : Operation) (c : Claim) (f : Option Filling) → c.seat ≡ seat → IsOf (activity_behind job.code t o c f)
+    pub behind_of : (t : State) (o : Operation) (c : SeatClaim) (f : Option Filling) → c.seat ≡ seat → IsOf seat (activity_behind job.code t o c f)
     behind_of t o c None e = e
     behind_of t o c (Some f) e = chosen (f.moved == elements_of f.pieces)
       where
-        chosen : (q : Bool) → IsOf (cond q (activity.Out c (before_of job.code t o (Some f))) (activity.Filling c (Some f)))
+        chosen : (q : Bool) → IsOf seat (cond q (activity.Out c (before_of job.code t o (Some f))) (activity.Filling c (Some f)))
         chosen true = e
         chosen false = e
 
-    copy_by : (t v : State) (a d : Activity) → t ≡ with_claim a → IsOf d → copied_in job.code t k seat d ≡ Some v → Claimed v
+    copy_by : (t v : State) (a d : Activity) → t ≡ with_claim a → IsOf seat d → copied_in job.code t k seat d ≡ Some v → Claimed v
     copy_by t v a (activity.Filling c f) e o q =
         let next : Activity = activity_behind job.code t (operation_at t k) c (moved_on t f) in
         let made : Some (doing t k next) ≡ Some v = sym (ap (λ x. cond x (Some (doing t k next)) None) (eq-eqb c.seat seat o)) ∙ q in
@@ -86,7 +88,7 @@ module _ (job : Job) where
     one_copy : (t v : State) → Claimed t → copied job.code t k seat ≡ Some v → Claimed v
     one_copy t v (a, o, e) q =
         let does : (operation_at t k).activity ≡ a = ap (λ x. (operation_at x k).activity) e ∙ ap (λ (y : Operation). y.activity) (row_is a) in
-        copy_by t v a (operation_at t k).activity e (subst IsOf (sym does) o) q
+        copy_by t v a (operation_at t k).activity e (subst (IsOf seat) (sym does) o) q
 
     pub all_copies : (n : ℕ) (t v : State) → Claimed t → replay_from job (Some t) (copies_by k seat n) ≡ Some v → Claimed v
     all_copies zero t v c q = subst Claimed (same_Some t v q) c
@@ -105,7 +107,7 @@ module _ (job : Job) where
 
     -- ---- and back
 
-    back_by : (t : State) (d : Activity) → IsOf d → back_in t k seat d ≡ Some (taken_back t k)
+    pub back_by : (t : State) (d : Activity) → IsOf seat d → back_in t k seat d ≡ Some (taken_back t k)
     back_by t (activity.Filling c f) o = ap (λ x. cond x (Some (taken_back t k)) None) (eq-eqb c.seat seat o)
     back_by t (activity.Out c x) o = ap (λ x. cond x (Some (taken_back t k)) None) (eq-eqb c.seat seat o)
     back_by t activity.Idle o = absurd o
@@ -114,7 +116,7 @@ module _ (job : Job) where
     pub back_goes : (t : State) → Claimed t → backed t k seat ≡ Some (taken_back t k)
     back_goes t (a, o, e) =
         let does : (operation_at t k).activity ≡ a = ap (λ x. (operation_at x k).activity) e ∙ ap (λ (y : Operation). y.activity) (row_is a) in
-        back_by t (operation_at t k).activity (subst IsOf (sym does) o)
+        back_by t (operation_at t k).activity (subst (IsOf seat) (sym does) o)
 
     -- ---- as before
 

@@ -3,7 +3,7 @@ use Rattle.std.proofs.Common.{◌≡◌, ◌<◌, ◌⊎◌, ◌++◌, ◌∷◌
 use Rattle.std.specs.Prelude.{All, nat_eq, slice_get}
 use Rattle.std.specs.List.{Contains}
 use Rattle.std.proofs.lemmas.Bool.{and_parts}
-use Rattle.std.proofs.lemmas.List.Elements.{All-append}
+use Rattle.std.proofs.lemmas.List.Elements.{All-append, All-contains_itself, All-weaker}
 use Rattle.std.proofs.lemmas.Option.{none-some, same_Some}
 use Rattle.region_tree.specs.declared.tree.OpNumber.{OpNumber}
 use Rattle.region_tree.specs.declared.tree.RootId.{RootId}
@@ -76,6 +76,10 @@ module _ (job : Job) (s : State) (who : ℕ → ℕ) (ways : List (List ℕ)) wh
   abbrev pub IsCalled : ℕ → List RootId → Node G → Type 0
   IsCalled k above n = (k ≡ 0) ⊎ ((j : ℕ) × IsChild job s who ways j k above (needs_issued job n))
 
+  -- a root that its caller made, or another above
+  abbrev pub IsOwned : ℕ → RootId → Type 0
+  IsOwned k r = (n : ℕ) × Contains (operation_at s (caller_up s (suc n) k)).frame.own r
+
   -- a way leads to it
   pub record Reached (k : ℕ) (o : Option (Node G)) : Type 0 where
     pub at : List ℕ
@@ -85,27 +89,41 @@ module _ (job : Job) (s : State) (who : ℕ → ℕ) (ways : List (List ℕ)) wh
     pub found : o ≡ Some node
     pub shows : Shows job s who ways at k earlier above node
     pub made : WereMade above
+    pub owned : All (IsOwned k) above
     pub called : IsCalled k above node
 
   module _ (own_made : (j : ℕ) → WereMade (operation_at s j).frame.own) where
     mutual
-      pub reached : (way w : List ℕ) (j k : ℕ) (earlier : List Sibling) (above : List RootId) (n : Node G) → Shows job s who ways w j earlier above n → WereMade above → IsCalled j above n →
-          Leads job s j way k → Reached k (find G way n)
-      reached [] w j k earlier above (op D N i f ps st is) h m r l = subst (λ x. Reached x (Some (op D N i f ps st is))) l
-          (record { at = w; earlier = earlier; above = above; node = op D N i f ps st is; found = refl; shows = h; made = m; called = r })
-      reached (c ∷ way) w j k earlier above (op D N i f ps st is) h m r l =
-          reached_among c way w j k 0 [] (above ++ (operation_at s j).frame.own) (operation_at s j).children is l.0 h.1
-          (All-append (λ (r : RootId). r.0 < length s.roots) above (operation_at s j).frame.own m (own_made j)) l.1 l.2
+      pub reached : (way w : List ℕ) (j k : ℕ) (earlier : List Sibling) (above : List RootId) (n : Node G) → Shows job s who ways w j earlier above n → WereMade above → All (IsOwned k) above →
+          IsCalled j above n → Leads job s j way k → Reached k (find G way n)
+      reached [] w j k earlier above (op D N i f ps st is) h m o r l = subst (λ x. Reached x (Some (op D N i f ps st is))) l (record {
+        at = w;
+        earlier = earlier;
+        above = above;
+        node = op D N i f ps st is;
+        found = refl;
+        shows = h;
+        made = m;
+        owned = subst (λ x. All (IsOwned x) above) (sym l) o;
+        called = r;
+      })
+      reached (c ∷ way) w j k earlier above (op D N i f ps st is) h m o r l =
+          let own = (operation_at s j).frame.own in
+          let up = climbs_among c way w j k 0 [] (above ++ own) (operation_at s j).children is l.0 h.1 l.1 l.2 in
+          reached_among c way w j k 0 [] (above ++ own) (operation_at s j).children is l.0 h.1
+          (All-append (λ (r : RootId). r.0 < length s.roots) above own m (own_made j))
+          (All-append (IsOwned k) above own o (All-weaker (Contains own) (IsOwned k)
+          (λ r q. (length way, subst (λ z. Contains (operation_at s z).frame.own r) (sym up) q)) own (All-contains_itself own))) l.1 l.2
 
       reached_among : (c : ℕ) (way w : List ℕ) (j k d : ℕ) (earlier : List Sibling) (roots : List RootId) (ks : List OpNumber) (is : Items G) (x : ℕ) → ShowsChildren job s who ways w j d earlier roots ks is →
-          WereMade roots → slice_get ks c ≡ Some (number x) → Leads job s x way k → Reached k (find_among G c way is)
-      reached_among c way w j k d earlier roots ks no_item x h m e l = absurd (none-some (number x) (ap (λ ks. slice_get ks c) (sym h) ∙ e))
-      reached_among c way w j k d earlier roots ks (said t is) x h m e l = reached_among c way w j k d earlier roots ks is x h m e l
-      reached_among c way w j k d earlier roots [] (child_op n is) x h m e l = absurd h
-      reached_among zero way w j k d earlier roots (y ∷ ys) (child_op n is) x h m e l =
-          reached way (w ++ d ∷ []) y.0 k earlier roots n h.1 m (inr (j, h.0)) (subst (λ (z : OpNumber). Leads job s z.0 way k) (sym (some_same y (number x) e)) l)
-      reached_among (suc c) way w j k d earlier roots (y ∷ ys) (child_op n is) x h m e l =
-          reached_among c way w j k (suc d) (earlier ++ record { op = y.0; needs = needs_issued job n } ∷ []) roots ys is x h.2 m e l
+          WereMade roots → All (IsOwned k) roots → slice_get ks c ≡ Some (number x) → Leads job s x way k → Reached k (find_among G c way is)
+      reached_among c way w j k d earlier roots ks no_item x h m o e l = absurd (none-some (number x) (ap (λ ks. slice_get ks c) (sym h) ∙ e))
+      reached_among c way w j k d earlier roots ks (said t is) x h m o e l = reached_among c way w j k d earlier roots ks is x h m o e l
+      reached_among c way w j k d earlier roots [] (child_op n is) x h m o e l = absurd h
+      reached_among zero way w j k d earlier roots (y ∷ ys) (child_op n is) x h m o e l =
+          reached way (w ++ d ∷ []) y.0 k earlier roots n h.1 m o (inr (j, h.0)) (subst (λ (z : OpNumber). Leads job s z.0 way k) (sym (some_same y (number x) e)) l)
+      reached_among (suc c) way w j k d earlier roots (y ∷ ys) (child_op n is) x h m o e l =
+          reached_among c way w j k (suc d) (earlier ++ record { op = y.0; needs = needs_issued job n } ∷ []) roots ys is x h.2 m o e l
 
   -- ---- a child
 

@@ -20,7 +20,7 @@ use Rattle.code_boards.specs.Laws.{machine_of, main_of}
 use Rattle.code_boards.specs.Views.{spaces_of}
 use Rattle.board_terms.specs.declared.claim.Claim.{Claim as FillClaim}
 use Rattle.board_terms.specs.declared.operation.Activity.TheVariants as activity
-use Rattle.board_terms.specs.Claims.{taken_back}
+use Rattle.board_terms.specs.Claims.{claim_made, taken_back}
 use Rattle.board_terms.specs.Outcomes.{outcome, result}
 use Rattle.board_terms.specs.Replays.{replay, replay_from, step_of, stepped}
 use Rattle.board_terms.specs.Stages.{has_finished, is_over, may_be_claimed, stage_at}
@@ -29,17 +29,18 @@ use Rattle.board_trees.specs.Shows.{ShowsBoard}
 use Rattle.board_trees.proofs.Beginning.{new_boards_show}
 use Rattle.journal_results.proofs.Journals.{Pictured, gives_show, pictured}
 use Rattle.progress_boards.proofs.Jobs.{jobs_filled_from_map, jobs_held_apart, jobs_in_progress_apart, jobs_issued_needed, jobs_some_ready}
-use Rattle.journal_progress.specs.Claims.{IsAsBefore, SomeMayBeClaimed, TakenBackAsBefore, claimed_by}
-use Rattle.journal_progress.specs.Laws.{NoneInProgressInterfere, UnfinishedAreListed}
+use Rattle.journal_progress.specs.Claims.{IsAsBefore, IsWhereItWas, SomeMayBeClaimed, TakenBackAsBefore, TakenBackWhereItWas, claimed_by, copies_by}
+use Rattle.journal_progress.specs.Laws.{NoneInProgressInterfere, OwnRootsAreApart, UnfinishedAreListed}
 use Rattle.journal_progress.specs.Parts.{MovedFromMap, HeldPartsAreApart}
-use Rattle.journal_progress.proofs.Backs.{as_before, back_goes, is_claimed, replay_both, was_ready}
+use Rattle.journal_progress.proofs.Backs.{as_before, back_goes, claim_was_ready, is_claimed, replay_both}
+use Rattle.journal_progress.proofs.Between.{all_between, goes_back, is_taken, where_it_was}
 use Rattle.journal_progress.proofs.Filled.{filled_from_map}
 use Rattle.journal_progress.proofs.Parts.{held_apart}
 use Rattle.journal_progress.proofs.Places.{is_listed}
-use Rattle.journal_progress.proofs.Progress.{none_interfere, not_over}
+use Rattle.journal_progress.proofs.Progress.{none_interfere, none_with_own, not_over}
 use Rattle.journal_progress.proofs.Ready.{some_ready}
 use Rattle.journal_progress.proofs.Steps.{AllHoldApart, OpenHoldApart, no_child, step_apart}
-use Rattle.journal_progress.proofs.Waited.{goes_on, idles, stands_parked, within}
+use Rattle.journal_progress.proofs.Waited.{goes_on, idles, stands_parked, there, within}
 
 module _ (job : Job) where
   -- it shows a board to which steps lead, or is that of a void job
@@ -121,6 +122,12 @@ none_in_progress_interfere job journal s e x y c d ex ey xy yx = ⊎_elim
     (λ p. none_interfere job s p.1.board p.1.shows (jobs_in_progress_apart job p.0 p.1.steps p.1.board p.1.made) (jobs_issued_needed job p.0 p.1.steps p.1.board p.1.made) x y c d ex ey xy yx)
     (λ q. absurd (void_over x.op.0 (ap (λ z. is_over (stage_at z x.op.0)) q ∙ not_over (stage_at s x.op.0) ex))) (is_pictured job journal s e)
 
+pub own_roots_are_apart : OwnRootsAreApart
+own_roots_are_apart job journal s e x y c d ex ey xy yx first second f g = ⊎_elim
+    (λ p. none_with_own job s p.1.board p.1.shows (jobs_in_progress_apart job p.0 p.1.steps p.1.board p.1.made) (jobs_issued_needed job p.0 p.1.steps p.1.board p.1.made)
+    x y c d ex ey xy yx first second f g)
+    (λ q. absurd (void_over x.op.0 (ap (λ z. is_over (stage_at z x.op.0)) q ∙ not_over (stage_at s x.op.0) ex))) (is_pictured job journal s e)
+
 unfinished : (c : Bool) (o : Outcome) → cond c (Some o) None ≡ None → c ≡ false
 unfinished true o e = absurd (none-some o (sym e))
 unfinished false o e = refl
@@ -140,7 +147,7 @@ taken_back_as_before job journal s t k seat n e f = ⊎_elim (λ p. by_board p.1
     leads = ap (λ o. replay_from job o (claimed_by k seat n)) (sym e) ∙ sym (replay_both job journal (claimed_by k seat n) (Some (opened job))) ∙ f
 
     ready : may_be_claimed s k ≡ true
-    ready = was_ready job s k seat n t leads
+    ready = claim_was_ready job s k seat (copies_by k seat n) t leads
 
     by_board : (b : Board (regent_ground (spaces_of job.code))) → ShowsBoard job s b → (u : State) × (replay job (journal ++ claimed_by k seat n ++ back ∷ []) ≡ Some u) × IsAsBefore k s u
     by_board b h =
@@ -151,6 +158,36 @@ taken_back_as_before job journal s t k seat n e f = ⊎_elim (λ p. by_board p.1
               ∙ ap (λ o. replay_from job o (back ∷ [])) f
               ∙ back_goes job s k seat inside t claim,
           as_before job s k seat inside (idles job s b h k seat ready) (goes_on job s b h k seat ready) (stands_parked job s b h k seat ready) ready t claim,
+        )
+
+pub taken_back_where_it_was : TakenBackWhereItWas
+taken_back_where_it_was job journal between s t k seat e all f = ⊎_elim (λ p. by_board p.1.board p.1.shows) (λ q. absurd (void_ready k (ap (λ x. may_be_claimed x k) q ∙ ready))) (is_pictured job journal s e)
+  where
+    claim : Entry
+    claim = record { kind = Claim; op = number k; seat = seat }
+
+    back : Entry
+    back = record { kind = Back; op = number k; seat = seat }
+
+    leads : replay_from job (Some s) (claim ∷ between) ≡ Some t
+    leads = ap (λ o. replay_from job o (claim ∷ between)) (sym e) ∙ sym (replay_both job journal (claim ∷ between) (Some (opened job))) ∙ f
+
+    ready : may_be_claimed s k ≡ true
+    ready = claim_was_ready job s k seat between t leads
+
+    follows : replay_from job (Some (claim_made s k seat)) between ≡ Some t
+    follows = ap (λ r. replay_from job (cond r (Some (claim_made s k seat)) None) between) (sym ready) ∙ leads
+
+    by_board : (b : Board (regent_ground (spaces_of job.code))) → ShowsBoard job s b → (u : State) × (replay job (journal ++ (claim ∷ between) ++ back ∷ []) ≡ Some u) × IsWhereItWas k s u
+    by_board b h =
+        let inside = within job s b h k seat ready in
+        let knotted = there job s b h k seat ready in
+        let taken = all_between job s k seat inside knotted between (claim_made s k seat) t (is_taken job s k seat inside knotted) all follows in (
+          taken_back t k,
+          replay_both job (journal ++ claim ∷ between) (back ∷ []) (Some (opened job))
+              ∙ ap (λ o. replay_from job o (back ∷ [])) f
+              ∙ goes_back job s k seat inside knotted t taken,
+          where_it_was job s k seat inside knotted (idles job s b h k seat ready) (stands_parked job s b h k seat ready) t taken,
         )
 
 -- ---- parts

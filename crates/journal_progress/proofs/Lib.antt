@@ -2,11 +2,14 @@ mod Needs
 mod Listings
 mod Callers
 mod Places
+mod Own
 mod Progress
 mod Backs
 mod Kept
 mod Given
 mod Steps
+mod Busy
+mod Between
 mod Pieces
 mod Parts
 mod Filled

@@ -32,7 +32,7 @@ use Rattle.board_trees.specs.Waits.{Sibling, has_ended}
 use Rattle.board_trees.proofs.Named.{is_naming, named_all}
 use Rattle.board_trees.proofs.Settled.{stage_there}
 use Rattle.changed_trees.proofs.Listed.{way_found}
-use Rattle.journal_progress.proofs.Callers.{Reached, WereMade, child_at, place_of, reached}
+use Rattle.journal_progress.proofs.Callers.{IsOwned, Reached, WereMade, child_at, place_of, reached}
 use Rattle.journal_progress.proofs.Listings.{one_entry}
 
 unended : (kn : Knotted) (w : Wait) (a : Activity) → is_over (stage_of kn w a) ≡ false → is_done (Some kn) ≡ false
@@ -69,7 +69,8 @@ module _ (job : Job) where
         record {
           way = w.0;
           leads = leads;
-          there = reached job s h.who b.ways h.own_made w.0 [] 0 k [] [] b.state.tree h.shows (All-nil (λ (r : RootId). r.0 < length s.roots)) (inl refl) leads;
+          there = reached job s h.who b.ways h.own_made w.0 [] 0 k [] [] b.state.tree h.shows (All-nil (λ (r : RootId). r.0 < length s.roots))
+              (All-nil (IsOwned job s h.who b.ways k)) (inl refl) leads;
         }
 
     -- one that has children was issued
@@ -106,7 +107,7 @@ module _ (job : Job) where
     still_listed k e = ap is_done (stage_there s.waits.knots k (subst (λ n. k < n) (sym h.knots) (is_there k e)))
         ∙ unended (knot_at s.waits.knots k).stage (operation_at s k).wait (operation_at s k).activity e
 
-    entry_of : (k : ℕ) → has_ended s.waits.knots k ≡ false → (g : Placed k) → (k ≡ 0) ⊎ ((j : ℕ) × IsListed job s h.who b.ways j k g.there.above (needs_issued job g.there.node))
+    pub entry_of : (k : ℕ) → has_ended s.waits.knots k ≡ false → (g : Placed k) → (k ≡ 0) ⊎ ((j : ℕ) × IsListed job s h.who b.ways j k g.there.above (needs_issued job g.there.node))
     entry_of k e g = ⊎_elim inl (λ q. inr (q.0, q.1.listed e)) g.there.called
 
     pub is_listed : (k : ℕ) → is_over (stage_at s k) ≡ false → (k ≡ 0) ⊎ ((x : Listed) × Contains s.waits.listing x × (x.op ≡ number k))
@@ -118,12 +119,15 @@ module _ (job : Job) where
     pub naming : (roots : List RootId) → WereMade job s h.who b.ways roots → IsNaming s.roots h.who roots name
     naming roots made = is_naming s.roots h.who (made_in G (machine_of job) b.state.tree) h.made 0 roots made
 
+    -- it has no other entry
+    pub entry_here : (x : Listed) → Contains s.waits.listing x → (j : ℕ) (roots : List RootId) (n : Node G) (l : IsListed job s h.who b.ways j x.op.0 roots (needs_issued job n)) → l.entry ≡ x
+    entry_here x c j roots n l = one_entry s.waits.listing (λ k. not (has_ended s.waits.knots k)) (length s.operations - 1) h.listed l.entry x l.there c (ap (λ (k : OpNumber). k.0) l.op_is)
+
     -- the entry of an operation has the needs with which it was issued
     pub entry_needs : (x : Listed) → Contains s.waits.listing x → (j : ℕ) (roots : List RootId) (n : Node G) → WereMade job s h.who b.ways roots →
         IsListed job s h.who b.ways j x.op.0 roots (needs_issued job n) → pointed (needs_of G n) ≡ map (requirement_named name) (requirements_of s.tree (needs_in x))
     entry_needs x c j roots n made l = ap pointed (sym (issued_is n)) ∙ l.needs name (naming roots made)
-        ∙ ap (λ (y : Listed). map (requirement_named name) (requirements_of s.tree (needs_in y)))
-        (one_entry s.waits.listing (λ k. not (has_ended s.waits.knots k)) (length s.operations - 1) h.listed l.entry x l.there c (ap (λ (k : OpNumber). k.0) l.op_is))
+        ∙ ap (λ (y : Listed). map (requirement_named name) (requirements_of s.tree (needs_in y))) (entry_here x c j roots n l)
 
     pub listed_needs : (x : Listed) → Contains s.waits.listing x → is_over (stage_at s x.op.0) ≡ false → (g : Placed x.op.0) → ¬ (x.op.0 ≡ 0) →
         pointed (needs_of G g.there.node) ≡ map (requirement_named name) (requirements_of s.tree (needs_in x))

@@ -1,5 +1,6 @@
 -- Operations in progress, of a state that shows a board of the laws.
 use Rattle.std.proofs.Common.{◌≡◌, ◌++◌, ◌∙◌, ⊎_elim, ℕ, List, [], ap, false, length, not, refl, subst, sym, true}
+use Rattle.std.specs.Prelude.{All}
 use Rattle.std.specs.List.{Contains}
 use Rattle.std.proofs.lemmas.Bool.{and_from, false≢true}
 use Rattle.region_finder.specs.Listings.{Listed, needs_in}
@@ -37,9 +38,10 @@ use Rattle.board_trees.specs.Shows.{Shows, ShowsBoard}
 use Rattle.board_trees.specs.Stages.{IsWait, Stands}
 use Rattle.board_trees.proofs.Settled.{node_told}
 use Rattle.changed_trees.proofs.Interfere.{interfere_pointed}
-use Rattle.journal_progress.specs.Laws.{IsAbove}
+use Rattle.journal_progress.specs.Laws.{IsAbove, IsOfOwn}
 use Rattle.journal_progress.proofs.Callers.{begins_above, climbs}
 use Rattle.journal_progress.proofs.Needs.{apart_needs}
+use Rattle.journal_progress.proofs.Own.{needs_above, with_own_apart}
 use Rattle.journal_progress.proofs.Places.{Placed, is_there, listed_needs, name, naming, placed}
 
 -- ---- what is in progress
@@ -122,3 +124,18 @@ module _ (job : Job) where
           sym (interfere_to to (same_root (named to) (naming job s b h v.there.above v.there.made).one) (requirements_of s.tree (needs_in x)) (requirements_of s.tree (needs_in y)))
           ∙ (λ i. interfere (sym first_needs i) (sym second_needs i)) ∙ interfere_pointed (needs_of G v.there.node) (needs_of G w.there.node)
           ∙ apart_needs (spaces_of job.code) (needs_of G v.there.node) (needs_of G w.there.node) (issued_apart x.op.0 y.op.0 v w ex ey xy yx)
+
+    module _ (apart : ProgressIsApart G b) (issued : IssuedIsNeeded G b) where
+      -- with roots that they made themselves
+      pub none_with_own : (x y : Listed) → Contains s.waits.listing x → Contains s.waits.listing y → is_in_progress (stage_at s x.op.0) ≡ true → is_in_progress (stage_at s y.op.0) ≡ true →
+          ¬ IsAbove s x.op.0 y.op.0 → ¬ IsAbove s y.op.0 x.op.0 → (own_first own_second : List Requirement) → All (IsOfOwn s x.op.0) own_first → All (IsOfOwn s y.op.0) own_second →
+          interfere (requirements_of s.tree (needs_in x) ++ own_first) (requirements_of s.tree (needs_in y) ++ own_second) ≡ false
+      none_with_own x y c d ex ey xy yx own_first own_second f g =
+          let ox = not_over (stage_at s x.op.0) ex in
+          let oy = not_over (stage_at s y.op.0) ey in
+          let v = placed job s b h x.op.0 (is_there job s b h x.op.0 ox) in
+          let w = placed job s b h y.op.0 (is_there job s b h y.op.0 oy) in
+          with_own_apart job s b h x y xy yx
+          (needs_above job s b h x c ox v (λ q. xy (subst (λ z. IsAbove s z y.op.0) (sym q) (main_above y.op.0 w))))
+          (needs_above job s b h y d oy w (λ q. yx (subst (λ z. IsAbove s z x.op.0) (sym q) (main_above x.op.0 v))))
+          (none_interfere apart issued x y c d ex ey xy yx) own_first own_second f g

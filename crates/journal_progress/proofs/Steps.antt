@@ -86,7 +86,7 @@ idle_unpast knot.Done e = absurd (false≢true e)
 idle_unpast knot.Failed e = absurd (false≢true e)
 idle_unpast knot.Dropped e = absurd (false≢true e)
 
-claimed_unclosing : (a : Activity) → IsClaimed a → is_closing (by_activity a) ≡ false
+pub claimed_unclosing : (a : Activity) → IsClaimed a → is_closing (by_activity a) ≡ false
 claimed_unclosing activity.Idle h = absurd h
 claimed_unclosing (activity.Filling c f) h = refl
 claimed_unclosing (activity.Out c b) h = refl

@@ -1,6 +1,6 @@
 -- Claims on a board: where nothing is claimed and nothing has come out yet, something can be claimed, and a claim that is
 -- taken back leaves the board as it was.
-use Rattle.std.specs.Prelude.{◌≡◌, ◌++◌, ◌∷◌, ℕ, zero, suc, Bool, List, None, Some, [], false, true}
+use Rattle.std.specs.Prelude.{◌≡◌, ◌++◌, ◌∷◌, ℕ, zero, suc, All, Bool, List, None, Some, [], false, true}
 use Rattle.dependence_graph.specs.Issues.{IsFirstReady}
 use Rattle.dependence_graph.specs.Knots.{knot_at, number}
 use Rattle.task_code.specs.declared.job.Job.{Job}
@@ -9,7 +9,7 @@ use Rattle.run_journal.specs.declared.entry.StepKind.TheVariants.{Back, Claim, C
 use Rattle.board_terms.specs.Outcomes.{result}
 use Rattle.board_terms.specs.Replays.{replay}
 use Rattle.board_terms.specs.Stages.{Stage, filling, may_be_claimed, out, stage_at}
-use Rattle.board_terms.specs.States.{State}
+use Rattle.board_terms.specs.States.{State, operation_at}
 
 -- it is Filling or Out
 abbrev pub has_claim : Stage → Bool
@@ -51,3 +51,22 @@ abbrev pub TakenBackAsBefore : Type 0
 TakenBackAsBefore = (job : Job) (journal : List Entry) (s t : State) (k seat n : ℕ) → replay job journal ≡ Some s →
     replay job (journal ++ claimed_by k seat n) ≡ Some t →
     (u : State) × (replay job (journal ++ claimed_by k seat n ++ record { kind = Back; op = number k; seat = seat } ∷ []) ≡ Some u) × IsAsBefore k s u
+
+-- ---- and with other steps between
+
+-- a step on another operation, or a copy
+abbrev pub IsBetween : ℕ → Entry → Type 0
+IsBetween k e = e.op ≡ number k → e.kind ≡ Copy
+
+pub record IsWhereItWas (k : ℕ) (s u : State) : Type 0 where
+  pub operation : operation_at u k ≡ operation_at s k
+  pub stage : stage_at u k ≡ stage_at s k
+  pub ready : may_be_claimed u k ≡ true
+
+-- Of every job: whatever steps follow a claim on other operations, and whatever copies, the claim can be taken back, and
+-- behind that its operation is where it was before the claim, and ready again.
+abbrev pub TakenBackWhereItWas : Type 0
+TakenBackWhereItWas = (job : Job) (journal between : List Entry) (s t : State) (k seat : ℕ) → replay job journal ≡ Some s → All (IsBetween k) between →
+    replay job (journal ++ record { kind = Claim; op = number k; seat = seat } ∷ between) ≡ Some t →
+    (u : State) × (replay job (journal ++ (record { kind = Claim; op = number k; seat = seat } ∷ between) ++ record { kind = Back; op = number k; seat = seat } ∷ []) ≡ Some u)
+    × IsWhereItWas k s u

@@ -1,9 +1,10 @@
 -- Operations of a board in progress don't interfere, and that is read off the table.
-use Rattle.std.specs.Prelude.{◌≡◌, ◌⊎◌, ℕ, zero, suc, List, Some, false, true}
+use Rattle.std.specs.Prelude.{◌≡◌, ◌⊎◌, ◌++◌, ℕ, All, zero, suc, List, Some, false, true}
 use Rattle.std.specs.List.{Contains}
 use Rattle.region_finder.specs.Listings.{Listed, needs_in}
 use Rattle.region_tree.specs.Needs.{requirements_of}
-use Rattle.region_tree.specs.Requirements.{interfere}
+use Rattle.region_tree.specs.Requirements.{Requirement, interfere}
+use Rattle.region_tree.specs.declared.tree.RootId.{RootId}
 use Rattle.dependence_graph.specs.Knots.{number}
 use Rattle.task_code.specs.declared.job.Job.{Job}
 use Rattle.run_journal.specs.declared.entry.Entry.{Entry}
@@ -34,3 +35,16 @@ NoneInProgressInterfere = (job : Job) (journal : List Entry) (s : State) → rep
     is_in_progress (stage_at s x.op.0) ≡ true → is_in_progress (stage_at s y.op.0) ≡ true →
     ¬ IsAbove s x.op.0 y.op.0 → ¬ IsAbove s y.op.0 x.op.0 →
     interfere (requirements_of s.tree (needs_in x)) (requirements_of s.tree (needs_in y)) ≡ false
+
+-- a need of a root that the operation made itself
+abbrev pub IsOfOwn : State → ℕ → Requirement → Type 0
+IsOfOwn s k a = (r : RootId) × Contains (operation_at s k).frame.own r × (a.root ≡ r.0)
+
+-- So it is with whatever they need, too, of roots that they made themselves, which the graph doesn't list.
+abbrev pub OwnRootsAreApart : Type 0
+OwnRootsAreApart = (job : Job) (journal : List Entry) (s : State) → replay job journal ≡ Some s →
+    (x y : Listed) → Contains s.waits.listing x → Contains s.waits.listing y →
+    is_in_progress (stage_at s x.op.0) ≡ true → is_in_progress (stage_at s y.op.0) ≡ true →
+    ¬ IsAbove s x.op.0 y.op.0 → ¬ IsAbove s y.op.0 x.op.0 →
+    (first second : List Requirement) → All (IsOfOwn s x.op.0) first → All (IsOfOwn s y.op.0) second →
+    interfere (requirements_of s.tree (needs_in x) ++ first) (requirements_of s.tree (needs_in y) ++ second) ≡ false

@@ -3,8 +3,8 @@
 //! What is said stands under specs/. Each function has an empty body; its contract is a law.
 #![tactic(auto)]
 
-ghost use Rattle.journal_progress.specs.Claims.{SomeMayBeClaimed, TakenBackAsBefore};
-ghost use Rattle.journal_progress.specs.Laws.{NoneInProgressInterfere, UnfinishedAreListed};
+ghost use Rattle.journal_progress.specs.Claims.{SomeMayBeClaimed, TakenBackAsBefore, TakenBackWhereItWas};
+ghost use Rattle.journal_progress.specs.Laws.{NoneInProgressInterfere, OwnRootsAreApart, UnfinishedAreListed};
 ghost use Rattle.journal_progress.specs.Parts.{HeldPartsAreApart, MovedFromMap};
 
 /// The graph lists each operation that isn't over but main.
@@ -15,6 +15,11 @@ pub fn unfinished_are_listed()
 /// Operations in progress, neither the other's ancestor, don't interfere.
 pub fn none_in_progress_interfere()
     ensures { NoneInProgressInterfere }
+{}
+
+/// Nor do they by what they need of roots that they made themselves.
+pub fn own_roots_are_apart()
+    ensures { OwnRootsAreApart }
 {}
 
 /// What an operation holds, and what it is being filled with, doesn't interfere with what its unfinished children need.
@@ -35,4 +40,9 @@ pub fn some_may_be_claimed()
 /// A claim that is taken back leaves the board as it was.
 pub fn taken_back_as_before()
     ensures { TakenBackAsBefore }
+{}
+
+/// A claim that is taken back after other steps leaves its operation where it was.
+pub fn taken_back_where_it_was()
+    ensures { TakenBackWhereItWas }
 {}
