@@ -17,7 +17,7 @@ use Rattle.machine_terms.specs.Machine.{Machine, Stepped, stops, when, with_turn
 use Rattle.machine_terms.specs.Pointers.{region_in}
 use Rattle.machine_terms.specs.Calls.{take_values, yield_call, calling, call_task, call}
 use Rattle.machine_terms.specs.Opening.{with_points, need_on, needs_on, opening}
-use Rattle.fit_rules.specs.Shapes.{Shape, awaited, NumberIs, World, IsRegion, Is, is_anything, is_number, is_space, is_region, is_partition, is_pending, Are, are_none, are_more, Origin, unknown, Each, ComesFrom, argument, own_root, own_as}
+use Rattle.fit_rules.specs.Shapes.{Shape, awaited, NumberIs, World, IsRegion, Is, is_anything, is_number, is_space, is_region, is_partition, is_pending, Are, are_none, are_more, Origin, unknown, Each, ComesFrom, argument, own_root, own_as, part}
 use Rattle.fit_rules.specs.Marks.{Suits, stacked}
 use Rattle.fit_rules.specs.Fits.{Program, requires, claim_on, declared_claims, root_claims, own_claims, claims, AreClaims, no_claims, a_claim, PartsFit, Fits}
 use Rattle.fit_rules.specs.Sound.{Takes, Opens, To, Settled}
@@ -33,6 +33,7 @@ module _ (x : World) (s : Shape) where
   origin_grown (argument i) r c = c
   origin_grown own_root r c = c
   origin_grown (own_as i) r c = c
+  origin_grown (part o) r c = (c.0, origin_grown o c.0 c.1, c.2)
 
   region_grown : (sp : Option ℕ) (o : Origin) (r : RegionValue) → IsRegion x sp o r → IsRegion (grown x s) sp o r
   region_grown sp o r i =

@@ -5,7 +5,7 @@ use Rattle.std.proofs.lemmas.Option.{none-some, same_Some}
 use Rattle.std.specs.Prelude.{slice_get, slice_set, length}
 use Rattle.machine_terms.specs.declared.value.RegionValue.{RegionValue}
 use Rattle.machine_terms.specs.declared.value.Value.{Value}
-use Rattle.fit_rules.specs.Shapes.{Among, Each, Shape, World, Is, IsRegion, Are, are_none, are_more, Origin, unknown, ComesFrom, IsWhole, own_as, argument, own_root}
+use Rattle.fit_rules.specs.Shapes.{Among, Each, Shape, World, Is, IsRegion, Are, are_none, are_more, Origin, unknown, ComesFrom, IsWhole, own_as, argument, own_root, part}
 
 -- each of some holds of one of them
 pub each_among : {A : Type 0} (P : A → Type 0) (xs : List A) (a : A) → Among xs a → Each P xs → P a
@@ -28,6 +28,7 @@ whole_of x own_root r h c = c
 whole_of x (own_as i) r h c = c.0
 whole_of x unknown r h c = absurd h
 whole_of x (argument i) r h c = absurd h
+whole_of x (part o) r h c = absurd h
 
 pub record Found (x : World) (s : Shape) (vs : List Value) (i : ℕ) : Type 0 where
   pub value : Value

@@ -44,6 +44,16 @@ none_true e = subst IsFalse e tt
 null_is : (k : ℕ) → NumberIs (pointer k) (negsuc 0)
 null_is k = (omega (arith, ints), omega arith)
 
+-- what has a colour is a child
+among_get : (rs : List RegionValue) (c : ℕ) (r : RegionValue) → slice_get rs c ≡ Some r → Among rs r
+among_get [] c r e = absurd (none-some r e)
+among_get (q ∷ rs) zero r e = inl (same_Some _ _ e)
+among_get (q ∷ rs) (suc c) r e = inr (among_get rs c r e)
+
+pub among_coloured : (rs : List RegionValue) (z : ℤ) (r : RegionValue) → coloured rs z ≡ Some r → Among rs r
+among_coloured rs (pos c) r e = among_get rs c r e
+among_coloured rs (negsuc c) r e = absurd (none-some r e)
+
 module _ (g : Program) (x : World) (t : TaskCode) (k : ℕ) (m : Machine) (fit : Fits g x t k m) where
   abbrev Next : List Shape → Type 0
   Next ss = To g t k (stacked (g.marks k m.frame.pc) ss) (suc m.frame.pc)
@@ -196,15 +206,6 @@ module _ (g : Program) (x : World) (t : TaskCode) (k : ℕ) (m : Machine) (fit :
       (sym (le-leb _ 4194304 q.is_partition_there.count))
       (safe_next g x t k m fit (space ∷ ss) _ to
       (are_more space _ ss _ (is_space _ q.is_partition_there.count) a)))
-
-  among_get : (rs : List RegionValue) (c : ℕ) (r : RegionValue) → slice_get rs c ≡ Some r → Among rs r
-  among_get [] c r e = absurd (none-some r e)
-  among_get (q ∷ rs) zero r e = inl (same_Some _ _ e)
-  among_get (q ∷ rs) (suc c) r e = inr (among_get rs c r e)
-
-  pub among_coloured : (rs : List RegionValue) (z : ℤ) (r : RegionValue) → coloured rs z ≡ Some r → Among rs r
-  among_coloured rs (pos c) r e = among_get rs c r e
-  among_coloured rs (negsuc c) r e = absurd (none-some r e)
 
   child_found : (sp : Option ℕ) (o : Option RegionValue) (line : ℕ) (ss : List Shape) (st : List Value) →
       ((r : RegionValue) → o ≡ Some r → IsRegion x sp unknown r) → Next (region sp unknown ∷ ss) → Are x ss st →

@@ -20,7 +20,7 @@ use Rattle.machine_terms.specs.declared.value.Value.TheVariants as value
 use Rattle.machine_terms.specs.Machine.{Machine, stops, when, at, broken}
 use Rattle.machine_terms.specs.Parts.{cell_at}
 use Rattle.machine_terms.specs.Regions.{on_space, root_of_space, new_root}
-use Rattle.fit_rules.specs.Shapes.{Among, OfSpace, Shape, space, region, World, IsRegion, Is, is_anything, is_number, is_space, is_region, is_partition, is_pending, Are, are_none, are_more, IsWhole, Origin, Each, KnowsRoots, ComesFrom, unknown, own_as, argument, own_root}
+use Rattle.fit_rules.specs.Shapes.{Among, OfSpace, Shape, space, region, World, IsRegion, Is, is_anything, is_number, is_space, is_region, is_partition, is_pending, Are, are_none, are_more, IsWhole, Origin, Each, KnowsRoots, ComesFrom, unknown, own_as, argument, own_root, part}
 use Rattle.fit_rules.specs.Marks.{stacked}
 use Rattle.fit_rules.specs.Fits.{Program, count_at, kind_at, shape_at, root_claims, requires, declared_claims, own_claims, claims, AreClaims, no_claims, a_claim, CellFits, PartsFit, Fits}
 use Rattle.fit_rules.specs.Sound.{To, IsOther}
@@ -61,6 +61,7 @@ module _ (x : World) (i root sp n : ℕ) (fresh : x.there root ≡ false) where
   origin_rooted s (argument j) r h there c = c
   origin_rooted s own_root r h there c = whole_rooted r there c
   origin_rooted s (own_as j) r h there c = (whole_rooted r there c.0, same_last j (λ e. h (sym e)) ∙ c.1)
+  origin_rooted s (part o) r h there c = (c.0, origin_rooted s o c.0 h (ap x.there (sym c.2.0) ∙ there) c.1, c.2)
 
   region_rooted : (s : Option ℕ) (o : Origin) (r : RegionValue) → IsOther i (region s o) → IsRegion x s o r →
       IsRegion (rooted x i root sp n) s o r

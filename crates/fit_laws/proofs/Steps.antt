@@ -172,7 +172,7 @@ module _ (g : Program) (x : World) (t : TaskCode) (k : ℕ) (m : Machine) (fit :
           HasColour m.frame.slots c z → Safe g x t k (child_at o line st m)
       of_child None z st p eo b ep ip hc = safe_stops _ _ (fit.beside.parts, tt)
       of_child (Some r) z st p eo b ep ip hc = safe_goes _ (fits_topped g x t k m fit (suc m.frame.pc) _ _ _ to
-          (are_more _ _ ss st (is_region sp unknown r (ip.regions r (among_coloured g x t k m fit p.children z r eo)).1) b)
+          (are_more _ _ ss st (is_region sp unknown r (ip.regions r (among_coloured p.children z r eo)).1) b)
           (record {
             other = r;
             at = record { parts = p; there = ep; colour = z; has_colour = hc; child = eo };

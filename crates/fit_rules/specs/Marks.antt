@@ -9,6 +9,7 @@ use Rattle.machine_terms.specs.Jumps.{size_of}
 use Rattle.machine_terms.specs.Pointers.{region_in}
 use Rattle.machine_terms.specs.Regions.{partition_in, coloured}
 use Rattle.fit_rules.specs.Shapes.{Among, Each, Shape, Numeric, World, Are}
+pub use Rattle.fit_rules.specs.Shapes.{LiesIn}
 
 -- ---- facts of regions in slots
 
@@ -51,10 +52,6 @@ pub record IsChild (slots : List Value) (p : ℕ) (c : Colour) (r : RegionValue)
 abbrev pub IsAt : List Value → Spot → RegionValue → Type 0
 IsAt slots (in_slot s) r = region_in (slice_get slots s) ≡ Some r
 IsAt slots (child_in p c) r = IsChild slots p c r
-
--- a region lies within another one of its root
-abbrev pub LiesIn : RegionValue → RegionValue → Type 0
-LiesIn r q = (r.root.0 ≡ q.root.0) × ((p : ℕ) → has r.points p ≡ true → has q.points p ≡ true)
 
 -- it lies within some region at a spot
 pub record LiesAt (slots : List Value) (r : RegionValue) (b : Spot) : Type 0 where

@@ -26,12 +26,13 @@ Each P (x ∷ xs) = P x × Each P xs
 -- ---- shapes
 
 -- Where a region comes from: nothing is known of it, it is that of an argument of the task, it is the whole of a root
--- that the task made, or of the one that it made last under a number.
+-- that the task made, or of the one that it made last under a number, or it lies within such a one.
 pub data Origin : Type 0 where
   unknown : Origin
   argument : ℕ → Origin
   own_root : Origin
   own_as : ℕ → Origin
+  part : Origin → Origin
 
 -- The shape of a slot or of a cell of the stack: anything at all; a number of a width; a truth; an
 -- index; a pointer with so many positions; an index space; a region of a field space, or of any, with its
@@ -96,11 +97,16 @@ OfSpace (Some sp) n = n ≡ sp
 abbrev pub IsWhole : World → RegionValue → Type 0
 IsWhole x r = Among x.own r.root.0 × (r.points ≡ x.points r.root.0)
 
+-- a region lies within another one of its root
+abbrev pub LiesIn : RegionValue → RegionValue → Type 0
+LiesIn r q = (r.root.0 ≡ q.root.0) × ((p : ℕ) → has r.points p ≡ true → has q.points p ≡ true)
+
 abbrev pub ComesFrom : World → Origin → RegionValue → Type 0
 ComesFrom x unknown r = Unit {0}
 ComesFrom x (argument i) r = region_in (slice_get x.args i) ≡ Some r
 ComesFrom x own_root r = IsWhole x r
 ComesFrom x (own_as i) r = IsWhole x r × (x.last i ≡ Some r.root.0)
+ComesFrom x (part o) r = (q : RegionValue) × ComesFrom x o q × LiesIn r q
 
 -- a region is a set of points of a root that is there
 pub record IsRegion (x : World) (sp : Option ℕ) (o : Origin) (r : RegionValue) : Type 0 where

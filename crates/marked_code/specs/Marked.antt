@@ -6,8 +6,8 @@ use Rattle.task_code.specs.declared.instr.Instr.{Instr}
 use Rattle.task_code.specs.declared.instr.Instr.TheVariants as instr
 use Rattle.code_rules.specs.Pieces.{Piece, empty, op, ◌⨟◌, over, branch, loop, rounds}
 use Rattle.task_code.specs.declared.code.SpaceCode.{SpaceCode}
-use Rattle.fit_rules.specs.Shapes.{Among, Each, Shape, truth, space, region, partition, own_as, awaited, Numeric, NumberIs}
-use Rattle.fit_rules.specs.Marks.{ColoursStand, counts, in_slot, lies, Mark, Into, parted, Stores, stacked, the_colour, top_colour, top_parted, topped}
+use Rattle.fit_rules.specs.Shapes.{Among, Each, Shape, truth, space, region, partition, own_as, unknown, awaited, Numeric, NumberIs}
+use Rattle.fit_rules.specs.Marks.{child_in, Colour, ColoursStand, counts, in_slot, lies, Mark, Into, parted, Stores, stacked, the_colour, top_colour, top_lies, top_parted, topped}
 use Rattle.fit_rules.specs.Fits.{Program}
 use Rattle.fit_rules.specs.Sound.{Allowed, Effect, HasPartition, HasRegion, IsOther, Opens, RoundNumber, RoundPoint, Takes}
 
@@ -26,6 +26,10 @@ module _ (g : Program) (t : TaskCode) (k : ℕ) where
     -- a number that is known
     leads_coloured : (m : Mark) (z : ℤ) (s : Shape) → NumberIs s z →
         Leads m (instr.Num z) (topped m (s ∷ m.stack) (top_colour (the_colour z)))
+    -- a child, of which is known of which partition it is
+    leads_child : (m : Mark) (i : ℕ) (sp : Option ℕ) (a : Shape) (ss : List Shape) (c : Colour) → m.stack ≡ a ∷ ss → Numeric a →
+        HasPartition m sp i → Among m.top (top_colour c) →
+        Leads m (instr.Child i) (topped m (region sp unknown ∷ ss) (top_lies (child_in i c)))
     -- a call, whose result may be pending, and where it is waited for
     leads_calling : (m : Mark) (task n : ℕ) (callee : TaskCode) (args rest : List Shape) →
         slice_get g.code.tasks task ≡ Some callee → callee.params ≡ n → 0 < length callee.body →

@@ -33,7 +33,9 @@ use Rattle.check_laws.proofs.Bodies.{IsToldNone}
 use Rattle.check_laws.proofs.Places.{places_are_without_breach}
 use Rattle.code_rules.specs.Instructions.{tasks_of}
 use Rattle.code_rules.specs.Programs.{task_code}
+use Rattle.code_laws.proofs.KnownHeads.{head_begins}
 use Rattle.code_laws.proofs.LocalNames.{first_below}
+use Rattle.code_laws.proofs.LocalTells.{params_tell as parts_tell}
 use Rattle.code_laws.proofs.LocalTrees.{task_stands}
 use Rattle.fit_rules.specs.Shapes.{Among, Each}
 use Rattle.fit_rules.specs.Marks.{apart, Fact, in_slot, lies}
@@ -173,6 +175,7 @@ module _ (tree : Tree) (t : TaskTree) (h : IsToldNone tree t) where
     begun = begun;
     next = omega arith;
     placed = params_placed params tree t.params 0 t.params;
+    head = head_begins tree t h.sound_task (parts_tell tree t h.scope.numbers);
   }
 
 -- ---- bodies

@@ -16,7 +16,7 @@ use Rattle.code_laws.specs.Taking.{pairs_in}
 use Rattle.fit_rules.specs.Shapes.{anything}
 use Rattle.fit_rules.specs.Marks.{Mark}
 use Rattle.fit_rules.specs.Fits.{Program}
-use Rattle.sound_code.specs.Named.{AreNamed, Ready}
+use Rattle.sound_code.specs.Named.{AreNamed, HavePartsBeside, Ready}
 use Rattle.sound_code.specs.Ways.{Way, all_made, by_rules, opening_facts, shape_in, shape_of}
 use Rattle.sound_code.proofs.Grounds.{Ground, HasFacts, Kept}
 use Rattle.sound_code.proofs.Cuts.{Cut}
@@ -77,6 +77,7 @@ module _ (g : Program) (t : TaskCode) (k n : ℕ) where
     pub kept : Kept t task w.tree w.params w.scope
     pub facts : HasFacts (by_rules task) w.tree m.facts
     pub named : AreNamed (by_rules task) w.params m.slots w.scope.names
+    pub beside : HavePartsBeside (by_rules task) w.params m.slots w.scope.names
     pub scoped : AreScoped w.scope.names w.scope.names
 
   pub ruled : (forms : Forms) (way : Way) (w : Where) (m : Mark) → Asked forms way w m → forms.keeps ≡ true → Ruled way w m
@@ -84,4 +85,4 @@ module _ (g : Program) (t : TaskCode) (k n : ℕ) where
     where
       of : {way : Way} → IsByRules way → Asked forms way w m → Ruled way w m
       of (is_by_rules task) a =
-          record { task = task; by = refl; known = a.known; kept = a.ground; facts = a.facts; named = a.ready.named; scoped = a.scoped q }
+          record { task = task; by = refl; known = a.known; kept = a.ground; facts = a.facts; named = a.ready.named; beside = a.ready.beside; scoped = a.scoped q }

@@ -10,6 +10,7 @@ use Rattle.task_code.specs.declared.code.TaskCode.{TaskCode}
 use Rattle.code_rules.specs.Slots.{bound, Where, typed}
 use Rattle.code_rules.specs.Statements.{after_arm, after_arms, after_form, looping, on_line}
 use Rattle.code_laws.specs.Simple.{a_partition_type, IsPartition, IsInteger, an_integer, IsSimple, simple_integer, number_index, number_integer, two_integers, two_truths}
+use Rattle.check_laws.specs.SoundScopes.{Falls}
 use Rattle.code_laws.specs.Steps.{Forms}
 use Rattle.code_laws.specs.Typed.{IsDifference, IsKeepable, IsTyped, IsTypedForm, AreTypedArms, IsTypedElse, IsTypedBlock}
 use Rattle.code_laws.proofs.Wider.{beginning}
@@ -18,8 +19,8 @@ use Rattle.regent_tree.specs.declared.typing.Bound.{Bound}
 use Rattle.sound_code.specs.Ways.{Way}
 use Rattle.sound_code.specs.WholeTasks.{is_value, are_whole_arms, is_whole_block, is_whole_else, is_whole_expression, is_whole_form}
 use Rattle.sound_code.proofs.Wholes.{Asks, asks_first, asks_second, begun_whole, begun_worth, said_worth, worth_simple, zero_worth}
-use Rattle.sound_code.proofs.Domains.{what_is_taken, looped_whole}
-use Rattle.sound_code.proofs.Grounds.{Ground, ground_cut, ground_declared, ground_looping, ground_past, ground_plain, ground_root, ground_said}
+use Rattle.sound_code.proofs.Taken.{looped_parts, taken_worth}
+use Rattle.sound_code.proofs.Grounds.{Ground, ground_block, ground_cut, ground_declared, ground_looping, ground_plain, ground_root, ground_rounds, ground_said}
 
 -- what loops bind is simple
 pub counted_simple : (t u : StaticType) → IsInteger t → IsInteger u → IsSimple (arithmetic_type t u)
@@ -40,14 +41,14 @@ module _ (forms : Forms) (t : TaskCode) (way : Way) where
   On w s = Ground t way w.tree w.params s
 
   -- a difference of partitions
-  minus_by : (w : Where) (n : Name) (u v : StaticType) → IsPartition u → On w w.scope →
+  minus_by : (w : Where) (n : Name) (u v : StaticType) → IsPartition u → Falls w.scope.next w.scope.names → On w w.scope →
       On w (knowing (with_name w.scope n (owned w.scope.next (operated (Compute Subtract) u v)) false)
       (known_of_child w.scope.next (operated (Compute Subtract) u v) ++ known_of_type (owned w.scope.next (operated (Compute Subtract) u v))))
-  minus_by w n _ v (a_partition_type d r p) g = ground_cut t w.tree w.params way w.scope n d r w.scope.next g
+  minus_by w n _ v (a_partition_type d r p) falls g = ground_cut t w.tree w.params way w.scope n d r falls g
 
   minus_ground : (w : Where) (n : Name) (e : Expression) → IsDifference w e → On w w.scope → On w (scope_after w.tree w.scope (var_form n None (Some (plain_initializer e))))
   minus_ground w n (chain_expr (access_expr p no_step) (a_link (Compute Subtract) (access_expr q no_step) no_link)) d g =
-      minus_by w n (bound w p).static_type (bound w q).static_type d.first.partition g
+      minus_by w n (bound w p).static_type (bound w q).static_type d.first.partition d.first.numbers g
   minus_ground w n _ d g = absurd d
 
   mutual
@@ -67,28 +68,30 @@ module _ (forms : Forms) (t : TaskCode) (way : Way) where
     after_form_ground w (if_form arms other) f whole g = after_else_ground (after_arms w arms) other f.1 (asks_second _ _ _ whole)
         (after_arms_ground w w arms f.0 (asks_first _ _ _ whole) g)
     after_form_ground w (while_form test body) f whole g =
-        ground_past t w.tree w.params way w.scope _ g (after_block_ground w body f.2 (asks_second _ _ _ whole) g)
+        ground_block t w.tree w.params way w.scope body g (after_block_ground w body f.2 (asks_second _ _ _ whole) g)
     after_form_ground w (for_in_form demanded n domain body) looped whole g =
-        let f = looped_whole forms.keeps w domain _ _ _ looped (asks_first _ _ _ whole) in
-        ground_past t w.tree w.params way w.scope _ g (after_block_ground (looping w n (taken_from (typed w domain))) body f.2 (asks_second _ _ _ whole)
-        (ground_looping t w.tree w.params way w.scope n (taken_from (typed w domain)) (what_is_taken forms.keeps w domain f.0).worth g))
+        let f = looped_parts forms.keeps w domain _ _ _ looped in
+        ground_rounds t w.tree w.params way w.scope n (taken_from (typed w domain)) body g
+        (after_block_ground (looping w n (taken_from (typed w domain))) body f.1 (asks_second _ _ _ whole)
+        (ground_looping t w.tree w.params way w.scope n (taken_from (typed w domain)) (taken_worth forms.keeps w domain _ _ f.0) g))
     after_form_ground w (for_to_form demanded n from to body) f whole g =
         let rest = asks_second forms.keeps _ (is_whole_expression true w to && is_whole_block true (looping w n (arithmetic_type (typed w from) (typed w to))) body) whole in
-        ground_past t w.tree w.params way w.scope _ g (after_block_ground (looping w n (arithmetic_type (typed w from) (typed w to))) body f.4 (asks_second _ _ _ rest)
+        ground_rounds t w.tree w.params way w.scope n (arithmetic_type (typed w from) (typed w to)) body g
+        (after_block_ground (looping w n (arithmetic_type (typed w from) (typed w to))) body f.4 (asks_second _ _ _ rest)
         (ground_looping t w.tree w.params way w.scope n (arithmetic_type (typed w from) (typed w to)) (worth_simple _ (counted_simple _ _ f.0 f.1)) g))
-    after_form_ground w (do_form body) f whole g = ground_past t w.tree w.params way w.scope _ g (after_block_ground w body f whole g)
+    after_form_ground w (do_form body) f whole g = ground_block t w.tree w.params way w.scope body g (after_block_ground w body f whole g)
     after_form_ground w (fill_form r fields e) f whole g = g
     after_form_ground w (call_form task args) f whole g = g
     after_form_ground w (assert_form e) f whole g = g
     after_form_ground w (print_form alias format args) f whole g = g
     after_form_ground w (assign_form x steps h e) f whole g = g
     after_form_ground w (return_form e) f whole g = g
-    after_form_ground w (var_form n None (Some (equal_initializer r e))) f whole g = ground_cut t w.tree w.params way w.scope n _ _ _ g
-    after_form_ground w (var_form n None (Some (by_field_initializer r l e))) f whole g = ground_cut t w.tree w.params way w.scope n _ _ _ g
-    after_form_ground w (var_form n None (Some (image_initializer a p r l))) f whole g = ground_cut t w.tree w.params way w.scope n _ _ _ g
-    after_form_ground w (var_form n None (Some (preimage_initializer a p r l))) f whole g = ground_cut t w.tree w.params way w.scope n _ _ _ g
-    after_form_ground w (var_form n None (Some (both_initializer p q))) f whole g = ground_cut t w.tree w.params way w.scope n _ _ _ g
-    after_form_ground w (var_form n None (Some (either_initializer p q))) f whole g = ground_cut t w.tree w.params way w.scope n _ _ _ g
+    after_form_ground w (var_form n None (Some (equal_initializer r e))) f whole g = ground_cut t w.tree w.params way w.scope n _ _ f.3.numbers g
+    after_form_ground w (var_form n None (Some (by_field_initializer r l e))) f whole g = ground_cut t w.tree w.params way w.scope n _ _ f.3.parent.numbers g
+    after_form_ground w (var_form n None (Some (image_initializer a p r l))) f whole g = ground_cut t w.tree w.params way w.scope n _ _ f.1.numbers g
+    after_form_ground w (var_form n None (Some (preimage_initializer a p r l))) f whole g = ground_cut t w.tree w.params way w.scope n _ _ f.1.numbers g
+    after_form_ground w (var_form n None (Some (both_initializer p q))) f whole g = ground_cut t w.tree w.params way w.scope n _ _ f.1.first.numbers g
+    after_form_ground w (var_form n None (Some (either_initializer p q))) f whole g = ground_cut t w.tree w.params way w.scope n _ _ f.1.first.numbers g
     after_form_ground w _ f whole g = absurd f
 
     pub after_block_ground : (w : Where) (b : Block) → IsTypedBlock forms w b → Asks forms.keeps (is_whole_block true w b) → On w w.scope →
@@ -103,9 +106,9 @@ module _ (forms : Forms) (t : TaskCode) (way : Way) where
     after_arms_ground own w (an_arm test body rest) f whole g =
         let inner = asks_second forms.keeps _ (is_whole_block true w body && are_whole_arms true own (after_arm w body) rest) whole in
         after_arms_ground own (after_arm w body) rest f.3 (asks_second _ _ _ inner)
-        (ground_past t w.tree w.params way w.scope _ g (after_block_ground w body f.2 (asks_first _ _ _ inner) g))
+        (ground_block t w.tree w.params way w.scope body g (after_block_ground w body f.2 (asks_first _ _ _ inner) g))
 
     after_else_ground : (w : Where) (other : Otherwise) → IsTypedElse forms w other → Asks forms.keeps (is_whole_else true w other) → On w w.scope →
         On w (scope_after_else w.tree w.scope other)
     after_else_ground w no_else f whole g = g
-    after_else_ground w (else_block body) f whole g = ground_past t w.tree w.params way w.scope _ g (after_block_ground w body f whole g)
+    after_else_ground w (else_block body) f whole g = ground_block t w.tree w.params way w.scope body g (after_block_ground w body f whole g)

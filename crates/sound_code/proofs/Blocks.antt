@@ -22,7 +22,7 @@ use Rattle.code_laws.specs.Typed.{IsKeepable, IsTyped, element_field, IsTypedFor
 use Rattle.fit_rules.specs.Shapes.{index}
 use Rattle.marked_code.specs.Marked.{leads_nowhere, typed_op}
 use Rattle.code_laws.proofs.Wider.{any_field, assigned, beginning, counting, zeroed}
-use Rattle.sound_code.specs.Named.{HasSlots, IsNumbered}
+use Rattle.sound_code.specs.Named.{HasPartBeside, HasSlots}
 use Rattle.regent_tree.specs.Scopes.{in_scope, past, Scope}
 use Rattle.regent_tree.specs.StaticTypes.{looked_up}
 use Rattle.regent_tree.specs.Typing.{scope_after_arms}
@@ -32,18 +32,21 @@ use Rattle.check_laws.specs.MeantVisits.{meant_in_arms, meant_in_else, meant_wit
 use Rattle.fit_rules.specs.Shapes.{region}
 use Rattle.sound_code.specs.WholeTasks.{is_value, are_whole_arms, is_whole_block, is_whole_else, is_whole_expression, is_whole_form}
 use Rattle.sound_code.specs.Ways.{Way, shape_in, shape_of}
-use Rattle.sound_code.proofs.Wholes.{Asks, asks_first, asks_second, assigned_becomes, begins_becomes, begun_whole, begun_worth, field_few, kept_of, owned_same, said_worth, set_worth, worth_few, worth_named, worth_numbered, worth_simple, zero_worth, begun_no_child}
+use Rattle.sound_code.proofs.Wholes.{Asks, asks_first, asks_second, assigned_becomes, begins_becomes, begun_whole, field_few, said_worth, set_worth, worth_few, worth_named, worth_numbered, worth_simple, zero_worth}
 use Rattle.sound_code.proofs.Scoped.{Scoped}
-use Rattle.sound_code.proofs.ScopedNames.{begun_scoped, said_scoped, scoped_bound, simple_scoped, zero_scoped}
+use Rattle.sound_code.proofs.ScopedNames.{said_scoped, scoped_bound, simple_scoped, zero_scoped}
 use Rattle.sound_code.proofs.Pointing.{reduce_behind_marked, set_behind_marked}
+use Rattle.sound_code.proofs.Copies.{begun_marked}
 use Rattle.sound_code.proofs.CutForms.{by_field_marked, equal_marked, image_marked, join_marked, meet_marked, minus_marked, preimage_marked}
 use Rattle.sound_code.proofs.Cuts.{cut_plain, cut_same}
-use Rattle.sound_code.proofs.NoCuts.{IsNoPartition, worth_no_partition}
-use Rattle.sound_code.proofs.Bindings.{over_points, parts_told, plain_stands, widens}
-use Rattle.sound_code.proofs.Domains.{domain_marked, taken_scoped, what_is_taken, looped_whole}
-use Rattle.sound_code.proofs.Numbering.{free_number}
+use Rattle.sound_code.proofs.NoCuts.{worth_no_partition}
+use Rattle.sound_code.proofs.Bindings.{over_points, parts_told, widens}
+use Rattle.sound_code.proofs.Domains.{domain_marked}
+use Rattle.sound_code.proofs.Taken.{looped_parts, taken_scoped}
+use Rattle.sound_code.proofs.Besides.{written_no_child}
+use Rattle.sound_code.proofs.Numbering.{free_number, numbered_more}
 use Rattle.sound_code.proofs.Behind.{after_arms_ground, after_block_ground, after_form_ground, counted_simple}
-use Rattle.sound_code.proofs.Grounds.{Ground, facts_more, facts_among, ground_looping, ground_past}
+use Rattle.sound_code.proofs.Grounds.{Ground, facts_more, facts_among, ground_block, ground_looping}
 use Rattle.sound_code.proofs.Steady.{steady_below}
 use Rattle.sound_code.proofs.Told.{ToldAll, ToldBlock, ToldForm, ToldList, told_arms, told_call_form, told_first, told_head, told_heads, told_listed, told_plain, told_statement}
 use Rattle.sound_code.proofs.Wanting.{may_reduce, may_write, told_index}
@@ -57,9 +60,9 @@ use Rattle.sound_code.proofs.Folds.{folded}
 use Rattle.sound_code.proofs.Loops as numbers
 use Rattle.sound_code.proofs.Narrowing.{narrow_itself, narrow_then, narrow_long, narrow_into, fewer_facts}
 use Rattle.sound_code.proofs.Prints.{print_marked}
-use Rattle.sound_code.proofs.Rounds.{long_round, round_narrow, round_ready}
+use Rattle.sound_code.proofs.Rounds.{domain_there, long_round, round_narrow, round_ready}
 use Rattle.sound_code.proofs.PointLoops as points
-use Rattle.sound_code.proofs.Statements.{begin_marked, Followed, new_name, unchanged, plain_marked, value_marked, root_marked, bind_marked, assign_marked, return_marked, assert_marked, call_marked, closed_block, while_marked, branch_marked}
+use Rattle.sound_code.proofs.Statements.{begin_marked, Followed, new_name, unchanged, value_marked, root_marked, bind_marked, assign_marked, return_marked, assert_marked, call_marked, closed_block, while_marked, branch_marked}
 
 module _ (g : Program) (t : TaskCode) (k slots : ℕ) (have : HasSlots t slots) (forms : Forms) (way : Way) where
   -- what is asked of a place
@@ -104,23 +107,7 @@ module _ (g : Program) (t : TaskCode) (k slots : ℕ) (have : HasSlots t slots) 
         Stands t.body pc (form_code w form) → Followed g t k forms.keeps way w.params (after_form w form).scope.names m (form_code w form)
     form_marked w m (var_form x None (Some (plain_initializer e))) f whole a told within pc st =
         ⊎_elim (λ (begun : (IsKeepable forms.keeps w e × IsTyped forms w e) × Asks forms.keeps (is_value true (owned w.scope.next (typed w e)) && is_whole_expression true w e)).
-        let form = var_form x None (Some (plain_initializer e)) in
-        let inside = asks_second forms.keeps _ (is_whole_expression true w e) begun.1 in
-        let is = kept_of forms.keeps w e begun.0.0 in
-        let worth = begun_worth forms.keeps w e w.scope.next begun.0.0 (asks_first _ _ _ begun.1) in
-        let u = owned w.scope.next (typed w e) in
-        let same = owned_same w.scope.next (typed w e) is in
-        let b = new_name g t k slots have forms way w m a x u in
-        bind_marked g t k slots have forms way w m a x (shape_of (typed w e)) u _
-        (λ x v. subst (λ s. Is x s v) (sym (ap (shape_in way w.params) same ∙ worth_named way w.params _ worth)))
-        (subst (λ y. IsNumbered (b ∷ w.scope.names) (shape_in way w.params y)) (sym same) (worth_numbered way w.params (b ∷ w.scope.names) (typed w e) worth))
-        (scoped_bound forms.keeps way w.tree w.scope form b refl told a.scoped (λ all. begun_scoped forms w all forms.keeps e w.scope.next begun.0.0 begun.0.1))
-        (cut_plain forms.keeps way w.tree w.scope form b w.params m.facts m.facts refl told (λ l h. h) a.cut
-        (subst IsNoPartition (sym same) (worth_no_partition (typed w e) worth)))
-        (plain_marked g t k slots have forms way w m a (typed w e) e w.scope.next _ _ is (begun_no_child forms.keeps w e w.scope.next begun.0.0 (asks_first _ _ _ begun.1))
-        (value_marked g t k slots have forms way w m a e [] begun.0.1 inside
-        (told_plain way forms w e begun.0.1 inside (told_heads w.tree w.scope way form told)) pc (plain_stands t.body w e w.scope.next (typed w e) pc is st.0)))
-        (stored g t k slots have forms way w m a _ _ st.1))
+        begun_marked g t k slots have forms way w m a x e told begun.0.0 begun.0.1 begun.1 pc st)
         (λ d. minus_marked g t k slots have forms way w m a x e told d.0 d.1 (stored g t k slots have forms way w m a _ _ st.1))
         (begun_whole forms.keeps w e _ (IsTyped forms w e) f whole)
     form_marked w m (var_form x None (Some (region_initializer e u))) f whole a told within pc st =
@@ -132,7 +119,7 @@ module _ (g : Program) (t : TaskCode) (k slots : ℕ) (have : HasSlots t slots) 
         bind_marked g t k slots have forms way w m a x (region (Some sp) (own_as free.number)) v _ free.becomes
         (free.named b refl)
         (scoped_bound forms.keeps way w.tree w.scope (var_form x None (Some (region_initializer e u))) b refl told a.scoped (λ all. refl))
-        (cut_plain forms.keeps way w.tree w.scope (var_form x None (Some (region_initializer e u))) b w.params m.facts m.facts refl told (λ l h. h) a.cut tt)
+        (cut_plain forms.keeps way w.tree w.scope (var_form x None (Some (region_initializer e u))) b w.params m.facts m.facts refl told (λ l h. h) a.cut tt) refl
         (root_marked g t k slots have forms way w m a e sp free.number free.others f.1 f.2 whole
         (told_head w.tree w.scope way (var_form x None (Some (region_initializer e u))) e refl told) f.3 pc st.0.0) (stored g t k slots have forms way w m a _ _ st.1)
     form_marked w m (var_form x (Some term) (Some (plain_initializer e))) f whole a told within pc st =
@@ -146,7 +133,7 @@ module _ (g : Program) (t : TaskCode) (k slots : ℕ) (have : HasSlots t slots) 
         (scoped_bound forms.keeps way w.tree w.scope (var_form x (Some term) (Some (plain_initializer e))) b refl told a.scoped
         (λ all. said_scoped w.scope.names w.scope.next (typed w e) u begins))
         (cut_plain forms.keeps way w.tree w.scope (var_form x (Some term) (Some (plain_initializer e))) b w.params m.facts m.facts refl told (λ l h. h) a.cut
-        (worth_no_partition u is))
+        (worth_no_partition u is)) (written_no_child w.tree w.scope w.scope.next term)
         (both g t k (value_marked g t k slots have forms way w m a e [] f.1 inside
         (told_plain way forms w e f.1 inside (told_heads w.tree w.scope way (var_form x (Some term) (Some (plain_initializer e))) told)) pc st.0.0)
         (converted_marked g t k slots have forms way w m a _ _ [] (begins_becomes w.scope.names _ u begins) (worth_few u is)))
@@ -160,6 +147,7 @@ module _ (g : Program) (t : TaskCode) (k slots : ℕ) (have : HasSlots t slots) 
         (worth_numbered way w.params (b ∷ w.scope.names) u is)
         (scoped_bound forms.keeps way w.tree w.scope (var_form x (Some term) None) b refl told a.scoped (λ all. zero_scoped w.scope.names w.scope.next u zero))
         (cut_plain forms.keeps way w.tree w.scope (var_form x (Some term) None) b w.params m.facts m.facts refl told (λ l h. h) a.cut (worth_no_partition u is))
+        (written_no_child w.tree w.scope w.scope.next term)
         (begin_marked g t k slots have forms way w m a u zero)
         (stored g t k slots have forms way w m a _ _ st.1)
     form_marked w m (if_form arms other) f whole a told within pc st = record {
@@ -201,7 +189,8 @@ module _ (g : Program) (t : TaskCode) (k slots : ℕ) (have : HasSlots t slots) 
         let inner = block_marked lw rm body f.4 (asks_second _ _ _ rest) (record {
           hands = a.hands;
           ready = round_ready way w.params bs m a.ready i i i m.facts hi b refl (ap (shape_in way w.params) wd.is) tt tt tt
-              (steady_below w.params (length bs) _ m.facts (omega arith) a.ready.facts);
+              (steady_below w.params (length bs) _ m.facts (omega arith) a.ready.facts)
+              (subst (HasPartBeside way w.params rm.slots bs (length bs)) (sym wd.is) tt);
           params = a.params;
           result = a.result;
           room = long_round way w.params bs m a.ready i i i m.facts hi ∙ a.room;
@@ -225,8 +214,10 @@ module _ (g : Program) (t : TaskCode) (k slots : ℕ) (have : HasSlots t slots) 
         (into g t k inner.is (narrow_into t.params inner.next hm [] narrow (fewer_facts m.facts inner.next.facts inner.facts)) (sym (narrow_long _ _ narrow))))))
     form_marked w m (for_in_form demanded x domain body) looped whole a told within pc st =
         let u = typed w domain in
-        let f = looped_whole forms.keeps w domain _ _ _ looped (asks_first _ _ _ whole) in
-        let tk = what_is_taken forms.keeps w domain f.0 in
+        let f = looped_parts forms.keeps w domain _ _ _ looped in
+        let over = domain_marked g t k slots have forms way w m a domain f.0 (asks_first _ _ _ whole)
+        (told_head w.tree w.scope way (for_in_form demanded x domain body) domain refl told) pc st.0 in
+        let tk = over.taken in
         let bs = w.scope.names in
         let b : Bound = record {
           name = x;
@@ -240,10 +231,11 @@ module _ (g : Program) (t : TaskCode) (k slots : ℕ) (have : HasSlots t slots) 
         let rm = points.round g t k way w.params bs m a.ready a.params hi tk.D tk.V tk.ptr tk.domain in
         let hm = points.head g t k way w.params bs m a.ready a.params hi tk.D tk.V tk.ptr tk.domain in
         let fs = points.counting g t k way w.params bs m a.ready a.params hi tk.D tk.V tk.ptr tk.domain in
-        let inner = block_marked lw rm body f.2 (asks_second _ _ _ whole) (record {
+        let inner = block_marked lw rm body f.1 (asks_second _ _ _ whole) (record {
           hands = a.hands;
-          ready = round_ready way w.params bs m a.ready tk.D index tk.V fs hi b refl (tk.shape way w.params) (tk.numbered (b ∷ bs)).0 tt (tk.numbered (b ∷ bs)).1
-              (points.are_counts g t k way w.params bs m a.ready a.params hi tk.D tk.V tk.ptr tk.domain);
+          ready = round_ready way w.params bs m a.ready tk.D index tk.V fs hi b refl tk.shape (numbered_more bs b tk.D tk.numbered.0) tt
+              (numbered_more bs b tk.V tk.numbered.1) (points.are_counts g t k way w.params bs m a.ready a.params hi tk.D tk.V tk.ptr tk.domain)
+              (tk.beside rm.slots (domain_there way w.params bs m a.ready tk.D index tk.V fs hi));
           params = a.params;
           result = a.result;
           room = long_round way w.params bs m a.ready tk.D index tk.V fs hi ∙ a.room;
@@ -252,14 +244,13 @@ module _ (g : Program) (t : TaskCode) (k slots : ℕ) (have : HasSlots t slots) 
           facts = facts_more way w.tree m.facts _ a.facts;
           ruled = a.ruled;
           scoped = scoped_bound forms.keeps way w.tree w.scope (for_in_form demanded x domain body) b refl told a.scoped
-              (λ all. taken_scoped forms.keeps w domain w.scope.next f.0);
+              (λ all. taken_scoped forms.keeps w domain w.scope.next _ _ f.0);
           cut = cut_plain forms.keeps way w.tree w.scope (for_in_form demanded x domain body) b w.params m.facts fs refl told (λ l h. inr h) a.cut
               (worth_no_partition _ tk.worth);
         }) within _ st.1.1.1.1.1 in
         let narrow = narrow_then _ _ _ inner.narrower (round_narrow way w.params bs m a.ready tk.D index tk.V fs hi) in
         unchanged g t k forms.keeps way _ _ m _ a.ready a.scoped a.cut
-        (both g t k (domain_marked g t k slots have forms way w m a domain f.0 f.1 (asks_first _ _ _ whole)
-        (told_head w.tree w.scope way (for_in_form demanded x domain body) domain refl told) pc st.0)
+        (both g t k over.is
         (subst (λ p. Marked g t k (stacked m (tk.D ∷ [])) (over_points w x u body p) (stacked m [])) (sym tk.is_ptr)
         (points.counted g t k way w.params bs m a.ready a.params hi tk.D tk.V tk.ptr tk.domain w.line (block_code lw body)
         (into g t k inner.is (narrow_into t.params inner.next hm [] narrow (fewer_facts fs inner.next.facts inner.facts)) (sym (narrow_long _ _ narrow))))))
@@ -356,7 +347,7 @@ module _ (g : Program) (t : TaskCode) (k slots : ℕ) (have : HasSlots t slots) 
         (closed_block g t k forms.keeps way _ _ m _ (block_marked w m body f.2 (asks_first _ _ _ later) a parts.0 _ st.1.1))
         (arms_marked own (after_arm w body) m rest other f.3 (asks_second _ _ _ later) o
         (asked_in w m (past w.scope inner) refl
-        (ground_past t w.tree w.params way w.scope inner a.ground (after_block_ground forms t way w body f.2 (asks_first _ _ _ later) a.ground)) a)
+        (ground_block t w.tree w.params way w.scope body a.ground (after_block_ground forms t way w body f.2 (asks_first _ _ _ later) a.ground)) a)
         first.1 parts.1 _ st.1.3 more)
 
     else_marked : (w : Where) (m : Mark) (other : Otherwise) → IsTypedElse forms w other → Asks forms.keeps (is_whole_else true w other) → At w m →

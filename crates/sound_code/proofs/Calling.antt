@@ -1,6 +1,6 @@
 -- Code of calls has marks: the arguments are pushed one after the other, and the frame that a call opens suits the
 -- mark in which the task's body begins.
-use Rattle.std.proofs.Common.{◌≡◌, inl, ℕ, zero, suc, ◌<◌, ◌-◌, ◌+◌, pos, List, [], ◌∷◌, ◌++◌, map, Bool, true, false, ◌&&◌, cond, None, Some, refl, sym, ap, ◌∙◌, subst, arith, length-append, Option}
+use Rattle.std.proofs.Common.{◌≡◌, inl, ℕ, zero, suc, ◌<◌, ◌-◌, ◌+◌, pos, List, [], ◌∷◌, ◌++◌, map, Bool, true, false, ◌&&◌, cond, None, Some, refl, sym, ap, ◌∙◌, subst, arith, length-append, Option, ⊎_elim}
 use Rattle.std.specs.Prelude.{flat_map, length, nat_lt, replicate, slice_get}
 use Rattle.std.proofs.lemmas.List.{append-nil, length-map}
 use Rattle.regent_tree.specs.declared.typing.StaticType.{StaticType}
@@ -23,7 +23,7 @@ use Rattle.code_rules.specs.Slots.{Where}
 use Rattle.code_laws.specs.Simple.{AreAlike, two_integers, two_truths, IsScalar, scalar_integer, scalar_truth, IsSimple, simple_integer, simple_truth, simple_index, simple_space}
 use Rattle.task_code.specs.declared.code.NeedCode.{NeedCode}
 use Rattle.code_laws.specs.Steps.{Forms, Taking}
-use Rattle.code_laws.specs.Arguments.{AreMet, IsMet, name_at}
+use Rattle.code_laws.specs.Arguments.{AreMet, IsMetAt}
 use Rattle.code_laws.specs.Typed.{ArePassed, IsIndexed, IsTyped}
 use Rattle.code_laws.proofs.Openings.{params_length, types_length}
 use Rattle.fit_rules.specs.Shapes.{Each, Shape, anything, Numeric, numeric_integer, numeric_truth, World, Is, is_anything, is_number, is_space, Are, are_none, are_more}
@@ -44,7 +44,7 @@ use Rattle.regent_tree.specs.declared.facts.Known.TheVariants.{Within, Apart, Pa
 use Rattle.regent_tree.specs.declared.facts.Term.TheVariants.{Name as TermName}
 use Rattle.sound_code.specs.WholeTasks.{are_whole_arguments}
 use Rattle.sound_code.proofs.Asked.{opening_mark, other, Known}
-use Rattle.sound_code.proofs.Wholes.{Asks, asks_first, asks_second, given_whole, IsWorth, met_whole, worth_named, worth_pointer, worth_simple}
+use Rattle.sound_code.proofs.Wholes.{Asks, asks_first, asks_second, given_whole, IsWorth, worth_named, worth_pointer, worth_simple}
 
 pub scalar_numeric : (t : StaticType) → IsScalar t → Numeric (shape_of t)
 scalar_numeric _ (scalar_integer w) = numeric_integer w
@@ -186,7 +186,7 @@ passed_worth forms plain w [] [] no_expr h asks = tt
 passed_worth forms plain w (t ∷ ts) (p ∷ ps) (an_expr e es) h asks = (
   given_whole forms.keeps forms.takes w t p e (IsTyped forms w e) (IsIndexed forms w e) (IsWorth p) (asks_first _ _ _ asks)
       (λ enters is. enters.worth)
-      (λ y takes q. absurd (none-some y (sym plain ∙ takes))) h.0,
+      (λ y takes q. absurd (none-some y (sym plain ∙ takes))) (λ b a. absurd (none-some a.taking (sym plain ∙ a.takes))) h.0,
   passed_worth forms plain w ts ps es h.1 (asks_second _ _ _ asks),
 )
 passed_worth forms plain w [] [] (an_expr e es) h asks = absurd h
@@ -204,10 +204,14 @@ passed_many forms w (t ∷ ts) [] es h = absurd h
 passed_many forms w (t ∷ ts) (p ∷ ps) no_expr h = absurd h
 
 -- where no regions are handed over, a task that is called needs nothing
+none_met : (b : Bool) (w : Where) (es : Expressions) (n : NeedCode) → IsMetAt b None w es n → ⊥
+none_met false w es n m = m
+none_met true w es n m = ⊎_elim (λ a. a) (λ a. a) m
+
 pub nothing_needed : (b : Bool) (o : Option Taking) → o ≡ None → (w : Where) (ps : List StaticType) (es : Expressions) (ns : List NeedCode) →
     Asks b (are_whole_arguments true w ps es) → AreMet b o w es ns → ns ≡ []
 nothing_needed b o e w ps es [] asks a = refl
-nothing_needed b o e w ps es (n ∷ ns) asks a = absurd (subst (λ o. IsMet o w n (name_at es n.param)) e (met_whole b o w ps es n asks a.0))
+nothing_needed b o e w ps es (n ∷ ns) asks a = absurd (none_met b w es n (subst (λ o. IsMetAt b o w es n) e a.0))
 
 -- a task's body has an instruction at least
 some_lines : (p : Piece) (line : ℕ) → 0 < length (lines (p ⨟ op instr.Return line) 0)

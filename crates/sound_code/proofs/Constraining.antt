@@ -1,7 +1,9 @@
 -- What a called task's clauses tell of its parameters holds of what is handed over, since nothing is told of the call.
+use Rattle.regent_tree.specs.declared.program.Clause.{Clause}
+use Rattle.std.specs.List.{list_any}
 use Rattle.std.proofs.Common.{◌≡◌, inl, inr, ℕ, zero, suc, List, Bool, true, false, Some, refl, sym, ap, ◌∙◌, subst, arith, None, ⊎_elim}
 use Rattle.std.specs.Prelude.{slice_get}
-use Rattle.std.proofs.lemmas.Bool.{not-false}
+use Rattle.std.proofs.lemmas.Bool.{not-false, false≢true, not-true, or_parts}
 use Rattle.std.proofs.lemmas.Option.{none-some, same_Some}
 use Rattle.plain_values.proofs.Plain.{option_or_parts}
 use Rattle.plain_values.specs.Points.{has}
@@ -35,16 +37,16 @@ use Rattle.fact_laws.specs.Regions.{SharesNoPoint}
 use Rattle.code_rules.specs.Slots.{Where, bound}
 use Rattle.code_laws.specs.Simple.{IsRegion, a_region_type, term_in}
 use Rattle.code_laws.specs.Steps.{Forms, Taking}
-use Rattle.code_laws.specs.Arguments.{name_at}
+use Rattle.code_laws.specs.Arguments.{name_at, part_at}
 use Rattle.code_laws.specs.Typed.{ArePassed, IsCallable}
 use Rattle.code_laws.proofs.Arguments.{first_region, named_typed}
 use Rattle.code_laws.proofs.LocalGiven.{IsHandedAt, handed_at}
 use Rattle.fit_rules.specs.Shapes.{Among, Are, Each, Is, KnowsRoots, World}
 use Rattle.fit_rules.specs.Marks.{Fact, Holds, LiesIn, Mark, Suits}
 use Rattle.marked_code.proofs.Placed.{below}
-use Rattle.sound_code.specs.WholeTasks.{are_whole_arguments}
+use Rattle.sound_code.specs.WholeTasks.{are_whole_arguments, are_free, binds_part, is_given}
 use Rattle.sound_code.specs.Ways.{by_rules, opening_facts}
-use Rattle.sound_code.proofs.Wholes.{Asks, no_part_at}
+use Rattle.sound_code.proofs.Wholes.{Asks}
 use Rattle.sound_code.proofs.Accepted.{stands_in}
 use Rattle.sound_code.proofs.Claims.{claims_apart, claims_parted, claims_within, each_claimed, IsClaimed}
 use Rattle.sound_code.proofs.Grounds.{HasFacts, Kept, OfType}
@@ -114,6 +116,7 @@ module _ (task : TaskTree) (t : TaskCode) (w : Where) (kept : Kept t task w.tree
 
   module _ (forms : Forms) (y : Taking) (takes : forms.takes ≡ Some y) (name : Name) (ts : List StaticType) (es : Expressions) (is : IsCallable forms w name es)
       (passed : ArePassed forms w ts (param_types w.tree (task_named w.tree name)) es) (whole : Asks forms.keeps (are_whole_arguments true w (param_types w.tree (task_named w.tree name)) es))
+      (free : Asks forms.keeps (are_free (task_named w.tree name) es))
       (are : Are x (all_handed w (param_types w.tree (task_named w.tree name)) es) ws) (told : ToldCall (by_rules task) w.tree w.scope name es) where
     abbrev callee : TaskTree
     callee = task_named w.tree name
@@ -142,8 +145,8 @@ module _ (task : TaskTree) (t : TaskCode) (w : Where) (kept : Kept t task w.tree
       typed : type_at (known_types w.tree w.scope es) k ≡ type
       numbered : IsNumbered type value
 
-    region_argument : (k : ℕ) → is_region (type_at types k) ≡ true → IsRegionArgument k
-    region_argument k e = ⊎_elim of_name (λ h. absurd (no_part_at w types es k (h.name, h.index) (whole h.keeps) h.at h.cut)) (handed_at forms y takes w ts types es passed k e)
+    region_argument : (k : ℕ) → is_region (type_at types k) ≡ true → (forms.keeps ≡ true → is_given (part_at es k) ≡ false) → IsRegionArgument k
+    region_argument k e none = ⊎_elim of_name (λ h. absurd (false≢true (sym (none h.keeps) ∙ ap is_given h.at))) (handed_at forms y takes w ts types es passed k e)
       where
         of_name : IsHandedAt w es k (type_at types k) → IsRegionArgument k
         of_name a =
@@ -161,12 +164,17 @@ module _ (task : TaskTree) (t : TaskCode) (w : Where) (kept : Kept t task w.tree
     region_of : (k : ℕ) (a : IsRegionArgument k) → region_in (slice_get ws k) ≡ Some a.numbered.given.it
     region_of k a = ap region_in (a.at ∙ ap Some a.numbered.given.is)
 
+    -- no constraint speaks of a part
+    unbound : (c : Clause) → Has callee.clauses c → forms.keeps ≡ true → binds_part callee.params es c ≡ false
+    unbound c h q = none_has (binds_part callee.params es) callee.clauses c (not-true (list_any (binds_part callee.params es) callee.clauses) (free q)) h
+
     fact_told : (f : Fact) → IsClaimed w.tree callee callee_sound f → Holds f ws
     fact_told _ (claims_within a b h pa pb) = λ r er.
         let ka = place_in callee.params a in
         let kb = place_in callee.params b in
-        let ra = region_argument ka pa.region in
-        let rb = region_argument kb pb.region in
+        let none = λ (q : forms.keeps ≡ true). or_parts (is_given (part_at es ka)) (is_given (part_at es kb)) (unbound (clause.Within a b) h q) in
+        let ra = region_argument ka pa.region (λ q. (none q).0) in
+        let rb = region_argument kb pb.region (λ q. (none q).1) in
         let whole = none_has (breaks_clause w.scope.known callee.params (known_types w.tree w.scope es)) _ (clause.Within a b)
         (call_parts w.tree task w.scope (calling name (known_types w.tree w.scope es)) told.2).constrained
         (subst (λ cs. Has cs (clause.Within a b)) (sym (told_soundly w.tree callee callee_sound.clauses)) h) in
@@ -183,8 +191,9 @@ module _ (task : TaskTree) (t : TaskCode) (w : Where) (kept : Kept t task w.tree
     fact_told _ (claims_apart a b h pa pb) = λ r q er eq same p ip.
         let ka = place_in callee.params a in
         let kb = place_in callee.params b in
-        let ra = region_argument ka pa.region in
-        let rb = region_argument kb pb.region in
+        let none = λ (q : forms.keeps ≡ true). or_parts (is_given (part_at es ka)) (is_given (part_at es kb)) (unbound (clause.Apart a b) h q) in
+        let ra = region_argument ka pa.region (λ q. (none q).0) in
+        let rb = region_argument kb pb.region (λ q. (none q).1) in
         let whole = none_has (breaks_clause w.scope.known callee.params (known_types w.tree w.scope es)) _ (clause.Apart a b)
         (call_parts w.tree task w.scope (calling name (known_types w.tree w.scope es)) told.2).constrained
         (subst (λ cs. Has cs (clause.Apart a b)) (sym (told_soundly w.tree callee callee_sound.clauses)) h) in
@@ -193,10 +202,10 @@ module _ (task : TaskTree) (t : TaskCode) (w : Where) (kept : Kept t task w.tree
         (subst (λ u. are_not_apart w.scope.known u (type_at (known_types w.tree w.scope es) kb) ≡ false) ra.typed whole)) in
         let e = subst (λ r. are_disjoint w.scope.known (term.Name ra.numbered.number) r ≡ true) rb.numbered.term
         (subst (λ r. are_disjoint w.scope.known r (term_in rb.type) ≡ true) ra.numbered.term lies) in
-        let none = apart_numbers ra.numbered.number rb.numbered.number ra.numbered.space rb.numbered.space ra.value rb.value ra.numbered.given rb.numbered.given e in
+        let apart = apart_numbers ra.numbered.number rb.numbered.number ra.numbered.space rb.numbered.space ra.value rb.value ra.numbered.given rb.numbered.given e in
         let one : ra.numbered.given.it ≡ r = same_Some ra.numbered.given.it r (sym (region_of ka ra) ∙ er) in
         let two : rb.numbered.given.it ≡ q = same_Some rb.numbered.given.it q (sym (region_of kb rb) ∙ eq) in
-        not_there r q (subst (λ o. SharesNoPoint (meant r) (meant o)) two (subst (λ o. SharesNoPoint (meant o) (meant rb.numbered.given.it)) one none)) same p ip
+        not_there r q (subst (λ o. SharesNoPoint (meant r) (meant o)) two (subst (λ o. SharesNoPoint (meant o) (meant rb.numbered.given.it)) one apart)) same p ip
       where
         not_there : (r q : RegionValue) → SharesNoPoint (meant r) (meant q) → r.root.0 ≡ q.root.0 → (p : ℕ) → has r.points p ≡ true → has q.points p ≡ false
         not_there r q none same p ip = of (has q.points p) refl

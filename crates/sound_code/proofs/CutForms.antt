@@ -1,6 +1,6 @@
 -- Statements that make partitions and keep them have marks. What is known of a new one is of which region it is.
 use Rattle.std.proofs.Common.{◌≡◌, inl, inr, ℕ, suc, ◌<◌, List, [], ◌∷◌, Bool, true, false, ◌||◌, None, Option, Some, refl, sym, ap, ◌∙◌, subst, arith}
-use Rattle.std.specs.Prelude.{length, slice_get}
+use Rattle.std.specs.Prelude.{length}
 use Rattle.regent_tree.specs.Accesses.{space_in}
 use Rattle.regent_tree.specs.Scopes.{bound_as}
 use Rattle.regent_tree.specs.StaticTypes.{field_place}
@@ -35,11 +35,12 @@ use Rattle.fit_rules.specs.Fits.{Program}
 use Rattle.fit_rules.specs.Sound.{Allowed, HasRegion}
 use Rattle.sound_code.specs.Named.{HasSlots, is_parted, IsSteady, slot_at}
 use Rattle.sound_code.specs.WholeTasks.{is_whole_expression}
-use Rattle.sound_code.specs.Ways.{shape_in, Way}
+use Rattle.sound_code.specs.Ways.{Way}
 use Rattle.sound_code.proofs.Asked.{Asked}
 use Rattle.sound_code.proofs.Below.{lies_below, parted_above}
 use Rattle.sound_code.proofs.Combining.{behind_kept, both, Marked, slot_high}
-use Rattle.sound_code.proofs.Cuts.{AreCut, cut_bound, cut_named, CutBy, IsCut, place_as}
+use Rattle.sound_code.proofs.Cuts.{cut_bound, place_as}
+use Rattle.sound_code.proofs.Parts.{cut_of as partition_of, IsCutOf}
 use Rattle.sound_code.proofs.Cutting.{any_partition, cut_by_field, cut_equal, cut_image, cut_join, cut_meet, cut_minus, cut_preimage, knowing, storing_cut}
 use Rattle.sound_code.proofs.Granting.{allowed, InPlace, May}
 use Rattle.sound_code.proofs.Narrowing.{narrow_itself, narrow_set}
@@ -70,7 +71,7 @@ module _ (g : Program) (t : TaskCode) (k slots : ℕ) (have : HasSlots t slots) 
       let b = new_name g t k slots have forms way w m asked n u in
       let low = place_as way w.params m.slots names r ready.named region in
       let lower : slot_bound w r < slot = omega (arith, low) in
-      let plain = named_more way w.params names m b ready hi refl tt in
+      let plain = named_more way w.params names m b ready hi refl tt refl in
       record {
         next = knowing (parted slot s) (set_mark m slot (partition None e) []);
         is = both g t k f (storing_cut g t k w.line m s slot (partition sp d) (partition None e) (behind_kept way w.params names m slot ready (omega arith))
@@ -78,6 +79,7 @@ module _ (g : Program) (t : TaskCode) (k slots : ℕ) (have : HasSlots t slots) 
             (λ x v i. any_partition x sp d e v flag i));
         ready = record {
           named = plain.named;
+          beside = plain.beside;
           free = plain.free;
           numbered = plain.numbered;
           facts = (
@@ -95,27 +97,11 @@ module _ (g : Program) (t : TaskCode) (k slots : ℕ) (have : HasSlots t slots) 
 
   -- ---- what is known of partitions that names have
 
-  -- a name's partition, in its slot, is of the region with a number
-  record IsOf (n : Name) (r : ℕ) : Type 0 where
-    disjoint : Bool
-    is : is_disjoint (bound w n).static_type ≡ disjoint
-    shape : slice_get m.slots (slot_named w n) ≡ Some (partition None disjoint)
-    region : IsRegion (bound_as w.scope.names r).static_type
-    fact : Among m.facts (parted (slot_named w n) (slot_bound w r))
-
-  are_cut : (v : Way) → IsByRules v → CutBy v w.params m.facts w.scope.names → AreCut w.params m.facts w.scope.names w.scope.names
-  are_cut _ (is_by_rules task) h = h
-
-  cuts : forms.keeps ≡ true → AreCut w.params m.facts w.scope.names w.scope.names
-  cuts q = are_cut way (asked.ruled q) (asked.cut q)
-
-  of_type : (n : Name) (u : StaticType) → is_disjoint (bound w n).static_type ≡ is_disjoint u → IsPartition u →
-      slice_get m.slots (slot_named w n) ≡ Some (shape_in way w.params u) → IsCut w.params m.facts w.scope.names (bound w n).place u → IsOf n (parent_of u)
-  of_type n _ same (a_partition_type d r p) there cut = record { disjoint = d; is = same; shape = there; region = cut.0; fact = cut.1 }
+  abbrev IsOf : Name → ℕ → Type 0
+  IsOf n r = IsCutOf w m n r
 
   cut_of : (n : Name) → forms.keeps ≡ true → IsCutName w n → IsOf n (parent_of (bound w n).static_type)
-  cut_of n q c = of_type n (bound w n).static_type refl c.partition (named_at way w.params m.slots w.scope.names n asked.ready.named c.named)
-      (cut_named w.params m.facts w.scope.names w.scope.names n (cuts q) c.named)
+  cut_of n q c = partition_of g t k slots forms way w m asked n q c
 
   -- the region with a number, in its slot
   region_there : (r : ℕ) → IsRegion (bound_as w.scope.names r).static_type → HasRegion m (Some (space_in (bound_as w.scope.names r).static_type)) (slot_bound w r)

@@ -1,4 +1,4 @@
--- The premises of the law on tasks that take no parts hold of a program that makes partitions in each way.
+-- The premises of the law on tasks that hand over no partitions hold of a program that makes partitions in each way.
 use Rattle.std.proofs.Common.{[], ◌∷◌, pos, refl, arith}
 use Rattle.std.proofs.lemmas.Int.{ints}
 use Rattle.regent_tree.specs.Limits.{parts_of_program, WithinLimits}

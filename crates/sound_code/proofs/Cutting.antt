@@ -23,12 +23,13 @@ use Rattle.code_rules.specs.Slots.{own_slot, slot, Where}
 use Rattle.code_laws.specs.Simple.{a_partition_type, IsPartition}
 use Rattle.code_laws.specs.Steps.{Forms}
 use Rattle.fit_laws.proofs.Keeping.{are_first, are_others, get_other, get_set, set_mark}
-use Rattle.fit_laws.proofs.Lookup.{as_long, set_at}
-use Rattle.fit_rules.specs.Shapes.{Among, Is, is_number, is_partition, IsRegion, partition, Shape, space, unknown, World}
-use Rattle.fit_rules.specs.Marks.{Fact, Holds, HoldsTop, in_slot, IsParted, lies, Mark, parted, stacked, Stores, Suits, TopFact, topped, top_parted}
+use Rattle.fit_laws.proofs.Lookup.{as_long, each_among, set_at, value_at}
+use Rattle.fit_laws.proofs.Pointers.{among_coloured}
+use Rattle.fit_rules.specs.Shapes.{Among, Are, are_more, ComesFrom, Each, Is, is_number, is_partition, is_region, IsRegion, Numeric, numeric_index, numeric_integer, numeric_pointer, numeric_truth, Origin, part, partition, region, Shape, space, unknown, World}
+use Rattle.fit_rules.specs.Marks.{any_colour, child_in, Fact, Holds, HoldsTop, in_slot, IsParted, lies, LiesAt, LiesIn, Mark, parted, stacked, Stores, Suits, top_colour, TopFact, top_lies, topped, top_parted}
 use Rattle.fit_rules.specs.Fits.{Program}
 use Rattle.fit_rules.specs.Sound.{Allowed, does_colors, HasPartition, HasRegion}
-use Rattle.marked_code.specs.Marked.{Leads, leads_colouring, leads_cutting, leads_image, leads_join, leads_meet, leads_minus, leads_preimage, leads_storing, typed_from, typed_op}
+use Rattle.marked_code.specs.Marked.{Leads, leads_child, leads_colouring, leads_cutting, leads_image, leads_join, leads_meet, leads_minus, leads_preimage, leads_storing, typed_from, typed_op}
 use Rattle.sound_code.specs.Ways.{shape_in, shape_of, Way}
 use Rattle.sound_code.proofs.Asked.{Asked}
 use Rattle.sound_code.proofs.Combining.{both, does, into, Keeps, Marked, nothing_done}
@@ -82,6 +83,60 @@ module _ (g : Program) (t : TaskCode) (k line : ℕ) (m : Mark) where
         top = tt;
         args = λ i o. ap region_in (get_other vs p i v (λ d. omega (arith, d, o, lo))) ∙ q.args i o;
       }
+
+  -- ---- a part
+
+  -- the number on top may be any colour
+  any_coloured : (x : World) (a : Shape) (us : List Shape) (vs st : List Value) → Numeric a → Are x (a ∷ us) st → HoldsTop (top_colour any_colour) vs st
+  any_coloured x _ us vs _ (numeric_integer w) (are_more _ _ _ st (is_number _ z h) b) = tt
+  any_coloured x _ us vs _ numeric_truth (are_more _ _ _ st (is_number _ z h) b) = tt
+  any_coloured x _ us vs _ numeric_index (are_more _ _ _ st (is_number _ z h) b) = tt
+  any_coloured x _ us vs _ (numeric_pointer n) (are_more _ _ _ st (is_number _ z h) b) = tt
+
+  -- a child lies within the region in a slot, of which the partition is
+  child_within : (x : World) (vs : List Value) (p s sp : ℕ) (o : Origin) (r : RegionValue) → Holds (parted p s) vs → Are x m.slots vs →
+      slice_get m.slots s ≡ Some (region (Some sp) o) → IsRegion x None unknown r → LiesAt vs r (child_in p any_colour) → Is x (region (Some sp) (part o)) (value.Region r)
+  child_within x vs p s sp o r parts slots e i h =
+      let v = value_at x m.slots vs s (region (Some sp) o) slots e in of v.value v.at v.of
+    where
+      of : (v : Value) → slice_get vs s ≡ Some v → Is x (region (Some sp) o) v → Is x (region (Some sp) (part o)) (value.Region r)
+      of _ at (is_number _ z f) = absurd f
+      of _ at (is_region _ _ q f) =
+          let w = parts h.at.parts h.at.there in
+          let same : q ≡ w.parent = same_Some q w.parent (sym (ap region_in at) ∙ w.at) in
+          let inside = w.inside h.other (among_coloured h.at.parts.children h.at.colour h.other h.at.child) in
+          let over : LiesIn r w.parent = (h.inside.0 ∙ inside.0, λ n y. inside.1 n (h.inside.1 n y)) in
+          is_region (Some sp) (part o) r (record {
+            there = i.there;
+            space = ap x.spaces over.0 ∙ subst (λ (d : RegionValue). x.spaces d.root.0 ≡ sp) same f.space;
+            set = i.set;
+            points = i.points;
+            origin = (w.parent, subst (ComesFrom x o) same f.origin, over);
+          })
+
+  pub cut_child : (p s sp : ℕ) (d : Bool) (o : Origin) (a : Shape) (us : List Shape) → Numeric a → slice_get m.slots p ≡ Some (partition None d) →
+      slice_get m.slots s ≡ Some (region (Some sp) o) → Among m.facts (parted p s) →
+      Marked g t k (stacked m (a ∷ us)) (op (instr.Child p) line) (stacked m (region (Some sp) (part o) ∷ us))
+  cut_child p s sp d o a us n hp hs fact =
+      let known = topped m (a ∷ us) (top_colour any_colour) in
+      into g t k (record {
+        marks = _;
+        is = typed_from (stacked m (a ∷ us)) known (topped m (region None unknown ∷ us) (top_lies (child_in p any_colour))) _ _
+            (λ x vs st q. record { slots = q.slots; stack = q.stack; facts = q.facts; top = (any_coloured x a us vs st n q.stack, tt); args = q.args })
+            (typed_op known _ (instr.Child p) line (leads_child known p None a us any_colour refl n (record { disjoint = d; shape = hp }) (inl refl))) refl;
+      }) (λ x vs st q. record {
+        slots = q.slots;
+        stack = of x vs st q.slots q.facts q.stack q.top.0;
+        facts = q.facts;
+        top = tt;
+        args = q.args;
+      }) refl
+    where
+      of : (x : World) (vs st : List Value) → Are x m.slots vs → Each (λ f. Holds f vs) m.facts → Are x (region None unknown ∷ us) st →
+          HoldsTop (top_lies (child_in p any_colour)) vs st → Are x (region (Some sp) (part o) ∷ us) st
+      of x vs _ slots facts (are_more _ _ _ st (is_region _ _ r i) b) h =
+          are_more _ _ us st (child_within x vs p s sp o r (each_among (λ f. Holds f vs) m.facts (parted p s) fact facts) slots hs i h) b
+      of x vs _ slots facts (are_more _ _ _ st (is_number _ z f) b) h = absurd f
 
   -- ---- partitions that are made
 

@@ -1,8 +1,13 @@
 -- The code of expressions has marks: each leads from a mark to the same with a value on the stack.
+use Rattle.sound_code.proofs.Parts.{part_code, part_regions}
+use Rattle.code_laws.specs.Arguments.{IsCutName}
+use Rattle.regent_tree.specs.declared.facts.Term.TheVariants as term
+use Rattle.regent_tree.specs.Scopes.{bound_as}
+use Rattle.std.proofs.lemmas.Bool.{and_parts, false≢true, or_cases}
 use Rattle.code_laws.proofs.Wider.{any_field, compared, converting, counting, signed_as}
-use Rattle.code_laws.specs.Pointers.{HasSigns, signs_counted, signs_plain}
+use Rattle.code_laws.specs.Pointers.{HasSigns, signs_counted, signs_plain, IsCounting}
 use Rattle.regent_tree.specs.declared.expression.Sign.TheVariants.{Minus}
-use Rattle.std.proofs.Common.{◌≡◌, inl, ℕ, ◌<◌, ◌≤◌, List, [], ◌∷◌, Some, refl, sym, ap, ◌∙◌, subst, arith, ⊎_elim, true}
+use Rattle.std.proofs.Common.{◌≡◌, inl, ℕ, ◌<◌, ◌≤◌, List, [], ◌∷◌, Some, refl, sym, ap, ◌∙◌, subst, arith, ⊎_elim, true, Bool, false, ◌||◌}
 use Rattle.std.specs.Prelude.{length}
 use Rattle.std.proofs.lemmas.List.{length-set}
 use Rattle.regent_tree.specs.declared.expression.Operator.TheVariants.{Or, And, Compare, Compute}
@@ -11,7 +16,7 @@ use Rattle.regent_tree.specs.declared.typing.StaticType.{StaticType}
 use Rattle.regent_tree.specs.declared.typing.StaticType.TheVariants.{Integer as integer_type, Truth as truth_type}
 use Rattle.regent_tree.specs.StaticTypes.{task_named}
 use Rattle.regent_tree.specs.Syntax.{Name, Expression, number_expr, truth_expr, chain_expr, prefix_expr, access_expr, call_expr, convert_expr, space_expr, Expressions, no_expr, an_expr, Links, no_link, a_link, no_step, field_step, at_step, is_null_expr, null_expr, cast_expr}
-use Rattle.regent_tree.specs.Typing.{linked_type, param_types, params_at, signed_type}
+use Rattle.regent_tree.specs.Typing.{linked_type, param_types, params_at, signed_type, parent_of}
 use Rattle.regent_tree.specs.Values.{kept_truth}
 use Rattle.task_code.specs.declared.code.TaskCode.{TaskCode}
 use Rattle.task_code.specs.declared.instr.Instr.TheVariants as instr
@@ -20,23 +25,23 @@ use Rattle.code_rules.specs.Pieces.{Piece, ◌⨟◌, line_of, over}
 use Rattle.code_rules.specs.Expressions.{expr_code, exprs_code, links_code}
 use Rattle.code_rules.specs.Instructions.{converted_code, signs_code, standing_code, one, place_of_task}
 use Rattle.code_rules.specs.Slots.{Where, bound, spare, typed, slot_named}
-use Rattle.code_laws.specs.Simple.{IsSimple, simple_integer, simple_truth, simple_space, simple_index, IsInteger, an_integer, IsTruth, a_truth_type, IsScalar, scalar_integer, SignsFit, of_a_truth, of_an_integer, not_before, minus_before}
+use Rattle.code_laws.specs.Simple.{IsSimple, simple_integer, simple_truth, simple_space, simple_index, IsInteger, an_integer, IsTruth, a_truth_type, IsScalar, scalar_integer, SignsFit, of_a_truth, of_an_integer, not_before, minus_before, AreRegions}
 use Rattle.code_laws.specs.Standing.{Stands}
 use Rattle.code_laws.specs.Steps.{Forms}
 use Rattle.code_laws.specs.Typed.{ArePassed, IsIndexed, IsTyped, AreTypedLinks}
-use Rattle.fit_rules.specs.Shapes.{Shape, awaited, integer, truth, space, Numeric, numeric_integer, numeric_truth}
+use Rattle.fit_rules.specs.Shapes.{Shape, awaited, integer, truth, space, Numeric, numeric_integer, numeric_truth, part, region}
 use Rattle.fit_rules.specs.Marks.{Mark, stacked}
 use Rattle.fit_rules.specs.Fits.{Program}
 use Rattle.fit_rules.specs.Sound.{does_num, does_load, does_negate, does_invert, does_space}
 use Rattle.marked_code.specs.Marked.{leads_waiting, typed_op, typed_and, typed_or}
 use Rattle.fit_laws.proofs.Keeping.{get_set, set_mark}
 use Rattle.sound_code.specs.Named.{slot_at, HasSlots}
-use Rattle.sound_code.specs.Ways.{Way, shape_of}
+use Rattle.sound_code.specs.Ways.{Way, shape_of, origin_in}
 use Rattle.sound_code.proofs.Granting.{allowed, May}
-use Rattle.sound_code.specs.WholeTasks.{are_whole_arguments, are_whole_links, is_whole_expression}
+use Rattle.sound_code.specs.WholeTasks.{are_whole_arguments, are_whole_links, is_whole_expression, names_region, takes_part}
 use Rattle.sound_code.proofs.Counting.{becomes, compares, compute_counted, number_counted, signs_counted as counted_signs, standing_counted}
-use Rattle.sound_code.proofs.Wholes.{Asks, asks_first, asks_second, Becomes, given_whole, HasFew, read_worth, value_worth, whole_argument, worth_few, worth_named, worth_settled}
-use Rattle.sound_code.proofs.Handed.{all_handed, handed, handed_unconverted, worth_handed}
+use Rattle.sound_code.proofs.Wholes.{Asks, asks_first, asks_second, Becomes, given_whole, HasFew, read_worth, value_worth, whole_argument, worth_few, worth_named, worth_settled, index_whole, region_no_partition}
+use Rattle.sound_code.proofs.Handed.{all_handed, handed, handed_unconverted, worth_handed, given_part, part_handed, same_code}
 use Rattle.sound_code.proofs.Cutting.{colours_marked}
 use Rattle.sound_code.proofs.Pointing.{behind_marked, cast_marked, element_at, null_asked, null_marked}
 use Rattle.sound_code.proofs.Handing.{calls, handed_marked}
@@ -51,7 +56,7 @@ use Rattle.regent_tree.specs.declared.rights.Access.{Access}
 use Rattle.regent_tree.specs.declared.rights.Access.TheVariants.{Read}
 use Rattle.fit_rules.specs.Sound.{Allowed}
 use Rattle.code_laws.specs.Typed.{IsAnyField}
-use Rattle.sound_code.proofs.Asked.{Asked}
+use Rattle.sound_code.proofs.Asked.{Asked, ruled}
 use Rattle.sound_code.proofs.Calling.{onto, scalar_numeric}
 use Rattle.sound_code.proofs.Combining.{Marked, nothing_done, both, does, into, behind_kept, slot_high, storing}
 use Rattle.sound_code.proofs.Elements.{reads}
@@ -79,6 +84,25 @@ pub truth_shape : (t : StaticType) → IsTruth t → shape_of t ≡ truth
 truth_shape _ a_truth_type = refl
 
 -- ---- expressions
+
+-- the colour of a part
+abbrev index_in : Expression → Expression
+index_in (access_expr n (at_step i no_step)) = i
+index_in e = e
+
+abbrev takes_index : Expression → Bool
+takes_index (access_expr n (at_step i no_step)) = true
+takes_index e = false
+
+-- what takes an element takes no part
+part_untyped : (forms : Forms) (w : Where) (e : Expression) → IsTyped forms w e → takes_part true w e ≡ true → ⊥
+part_untyped forms w (access_expr n (at_step i no_step)) f h = region_no_partition (bound w n).static_type f.4 (and_parts _ _ h).0
+part_untyped forms w _ f h = false≢true h
+
+-- a part names no region
+part_asked : (w : Where) (e : Expression) (n : Name) (i : Expression) → e ≡ access_expr n (at_step i no_step) →
+    (names_region w e || (takes_part true w e || is_whole_expression true w e)) ≡ true → (takes_part true w e || is_whole_expression true w e) ≡ true
+part_asked w e n i same h = ⊎_elim (λ r. absurd (false≢true (subst (λ y. names_region w y ≡ true) same r))) (λ q. q) (or_cases (names_region w e) _ h)
 
 module _ (g : Program) (t : TaskCode) (k slots : ℕ) (have : HasSlots t slots) (forms : Forms) (way : Way) (w : Where) (m : Mark)
     (asked : Asked g t k slots forms way w m) where
@@ -150,6 +174,23 @@ module _ (g : Program) (t : TaskCode) (k slots : ℕ) (have : HasSlots t slots) 
       (named_at way w.params m.slots w.scope.names n asked.ready.named field.named) (placed_at t way w.tree w.params w.scope n asked.ground field.named)
       field.field may
 
+  -- a part is left on the stack, as what lies within the region of which its partition is
+  part_passed : (d : ℕ) (us : List Shape) (p : StaticType) (e : Expression) (u : StaticType) (n : Name) (i : Expression) → e ≡ access_expr n (at_step i no_step) →
+      forms.keeps ≡ true → IsCutName w n → AreRegions (typed w e) p → IsCounting (typed w i) →
+      ((pc : ℕ) → Stands t.body pc (expr_code w d i) → Goes us (expr_code w d i) (shape_of (typed w i) ∷ us)) → (pc : ℕ) → Stands t.body pc (expr_code w d e) →
+      Goes us (expr_code w d e) (handed w p e ∷ us)
+  part_passed d us p e u n i same keeps cut regions counting marked pc st =
+      let code = part_code g t k slots forms way w m asked n keeps cut d us (bound w n).static_type i cut.partition counting marked pc
+      (subst (λ y. Stands t.body pc (expr_code w d y)) same st) in
+      let here = subst (λ y. AreRegions (typed w y) p) same regions in
+      let by = (ruled g t k slots forms way w m asked keeps).by in
+      subst (λ y. Goes us (expr_code w d y) (handed w p y ∷ us)) (sym same)
+      (subst (λ s. Goes us (expr_code w d (access_expr n (at_step i no_step))) (s ∷ us)) (sym (part_handed w n i _ p here))
+      (subst (λ sp. Goes us (expr_code w d (access_expr n (at_step i no_step))) (given_part w.params sp (parent_of (bound w n).static_type) ∷ us))
+      (sym (part_regions w n i p cut.partition here))
+      (subst (λ v. Goes us (expr_code w d (access_expr n (at_step i no_step)))
+      (region (Some (space_in (bound_as w.scope.names (parent_of (bound w n).static_type)).static_type)) (part (origin_in v w.params (term.Name (parent_of (bound w n).static_type)))) ∷ us)) by code)))
+
   mutual
     pub expr_marked : (d : ℕ) (e : Expression) (us : List Shape) → IsTyped forms w e → Asks forms.keeps (is_whole_expression true w e) →
         Told way w.tree w.scope e → (pc : ℕ) → Stands t.body pc (expr_code w d e) → Goes us (expr_code w d e) (shape_of (typed w e) ∷ us)
@@ -181,8 +222,8 @@ module _ (g : Program) (t : TaskCode) (k slots : ℕ) (have : HasSlots t slots) 
         let same = asked.known.results place u fine.2.0 in
         let nr : Numeric (g.results place) = subst Numeric (sym same) (scalar_numeric _ fine.1) in
         subst (λ y. Goes us (expr_code w d (call_expr task args)) (y ∷ us)) same
-        (both g t k (args_marked d (params_at w.tree w.scope u args) types args us fine.3 whole (told_call w.tree w.scope way task args told) pc st.0)
-        (both g t k (calls g t k slots forms way w m asked task (params_at w.tree w.scope u args) args us fine.2 fine.3 whole (told_called w.tree w.scope way task args told))
+        (both g t k (args_marked d (params_at w.tree w.scope u args) types args us fine.3 (asks_first _ _ _ whole) (told_call w.tree w.scope way task args told) pc st.0)
+        (both g t k (calls g t k slots forms way w m asked task (params_at w.tree w.scope u args) args us fine.2 fine.3 (asks_first _ _ _ whole) (asks_second _ _ _ whole) (told_called w.tree w.scope way task args told))
         (awaited_marked (spare w d) (g.results place) us nr (omega arith) (stored _ (spare w d) st.1.1.0))))
     expr_marked d (convert_expr c e) us fine whole told pc st =
         let number = counting forms.keeps _ fine.1 in
@@ -245,6 +286,16 @@ module _ (g : Program) (t : TaskCode) (k slots : ℕ) (have : HasSlots t slots) 
         (both g t k (h.compared us)
         (links_marked d _ rest us fine.2 (asks_second _ _ _ whole) parts.1 _ st.1.1.1.1))))
 
+    -- what stands for the colour of a part
+    index_marked : (d : ℕ) (us : List Shape) (e : Expression) (n : Name) (i : Expression) → e ≡ access_expr n (at_step i no_step) → IsTyped forms w i →
+        Asks forms.keeps (is_whole_expression true w i) → Told way w.tree w.scope i → (pc : ℕ) → Stands t.body pc (expr_code w d i) →
+        Goes us (expr_code w d i) (shape_of (typed w i) ∷ us)
+    index_marked d us (access_expr x (at_step j no_step)) n i same fine whole told pc st =
+        subst (λ y. IsTyped forms w y → Asks forms.keeps (is_whole_expression true w y) → Told way w.tree w.scope y → (pc : ℕ) → Stands t.body pc (expr_code w d y) →
+        Goes us (expr_code w d y) (shape_of (typed w y) ∷ us)) (ap index_in same)
+        (λ f h o q s. expr_marked d j us f h o q s) fine whole told pc st
+    index_marked d us _ n i same fine whole told pc st = absurd (false≢true (ap takes_index same))
+
     -- arguments of parameters of these types
     pub args_marked : (d : ℕ) (ts ps : List StaticType) (es : Expressions) (us : List Shape) → ArePassed forms w ts ps es → Asks forms.keeps (are_whole_arguments true w ps es) →
         ToldArgs way w.tree w.scope es → (pc : ℕ) → Stands t.body pc (exprs_code w d ts es) → Goes us (exprs_code w d ts es) (onto (all_handed w ps es) us)
@@ -253,13 +304,20 @@ module _ (g : Program) (t : TaskCode) (k slots : ℕ) (have : HasSlots t slots) 
         let parts = told_arg w.tree w.scope way e es told in
         given_whole forms.keeps forms.takes w u p e (IsTyped forms w e) (IsIndexed forms w e)
         (Goes us (exprs_code w d (u ∷ ts) (an_expr e es)) (onto (all_handed w (p ∷ ps) (an_expr e es)) us)) (asks_first _ _ _ whole)
-        (λ enters is. both g t k (expr_marked d e us is (whole_argument forms.keeps w p e (asks_first _ _ _ whole) enters.other) parts.0 pc st.0)
+        (λ enters is. both g t k (expr_marked d e us is (whole_argument forms.keeps w p e (asks_first _ _ _ whole) enters.other (part_untyped forms w e is)) parts.0 pc st.0)
         (both g t k (subst (λ y. Goes (shape_of (typed w e) ∷ us) (converted_code w (typed w e) u) (y ∷ us))
         (enters.same ∙ sym (worth_handed w p e enters.worth))
         (converted_marked (typed w e) u us enters.goes enters.few))
         (args_marked d ts ps es (handed w p e ∷ us) fine.1 (asks_second _ _ _ whole) parts.1 _ st.1.1)))
         (λ y takes h. both g t k (handed_marked g t k slots forms way w m asked y takes d u p e us h)
         (both g t k (subst (λ q. Goes (handed w p e ∷ us) q (handed w p e ∷ us)) (sym (handed_unconverted w y u p e h)) (nothing_done g t k _))
+        (args_marked d ts ps es (handed w p e ∷ us) fine.1 (asks_second _ _ _ whole) parts.1 _ st.1.1)))
+        (λ keeps a. both g t k (part_passed d us p e (typed w e) a.name a.index a.is keeps a.cut a.regions (subst (IsIndexed forms w) a.is a.part).1
+        (λ q s. index_marked d us e a.name a.index a.is (subst (IsIndexed forms w) a.is a.part).0
+        (λ b. index_whole w a.name a.index (subst (λ y. (takes_part true w y || is_whole_expression true w y) ≡ true) a.is
+        (part_asked w e a.name a.index a.is (and_parts _ _ (asks_first _ _ _ whole b)).1)))
+        (told_at w.tree w.scope way a.name a.index (subst (Told way w.tree w.scope) a.is parts.0)) q s) pc st.0)
+        (both g t k (subst (λ q. Goes (handed w p e ∷ us) q (handed w p e ∷ us)) (sym (ap (converted_code w (typed w e)) a.same ∙ same_code w (typed w e) p a.regions)) (nothing_done g t k _))
         (args_marked d ts ps es (handed w p e ∷ us) fine.1 (asks_second _ _ _ whole) parts.1 _ st.1.1))) fine.0
     args_marked d [] [] (an_expr e es) us fine whole told pc st = absurd fine
     args_marked d [] (p ∷ ps) es us fine whole told pc st = absurd fine

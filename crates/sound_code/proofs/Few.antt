@@ -1,9 +1,9 @@
 -- Within the limits of a text a pointer's type names four regions at most: so it is of types that are written, of those that fields
--- have, and so of all names. What is asked of tasks that take no parts then holds with that too.
-use Rattle.std.proofs.Common.{◌≡◌, inl, inr, ⊎_elim, ℕ, zero, suc, List, [], ◌∷◌, ◌++◌, Bool, true, false, ◌&&◌, ◌||◌, cond, None, Option, Some, refl, sym, ap, ◌∙◌, subst, arith}
-use Rattle.std.specs.Prelude.{bytes_eq, length, nat_le, not, slice_get}
+-- have, and so of all names. What is asked of tasks that hand over no partitions then holds with that too.
+use Rattle.std.proofs.Common.{◌≡◌, inl, inr, ⊎_elim, ℕ, zero, suc, List, [], ◌∷◌, ◌++◌, Bool, true, false, ◌&&◌, ◌||◌, cond, None, Option, Some, refl, sym, ◌∙◌, subst, arith}
+use Rattle.std.specs.Prelude.{bytes_eq, length, slice_get}
 use Rattle.std.specs.List.{list_all}
-use Rattle.std.proofs.lemmas.Bool.{and_parts, false≢true, le-leb}
+use Rattle.std.proofs.lemmas.Bool.{false≢true, le-leb}
 use Rattle.std.proofs.lemmas.List.{length-map}
 use Rattle.regent_tree.specs.Limits.{node, nodes, counted, parts_of_arms, parts_of_block, parts_of_expression, parts_of_expressions, parts_of_form, parts_of_init, parts_of_item, parts_of_items, parts_of_links, parts_of_otherwise, parts_of_params, parts_of_pointer, parts_of_steps, parts_of_term, parts_of_type}
 use Rattle.regent_tree.specs.declared.limits.Counted.TheVariants.{Regions}
@@ -21,7 +21,6 @@ use Rattle.regent_tree.specs.declared.types.TypeTerm.TheVariants as typing
 use Rattle.regent_tree.specs.declared.typing.Bound.{Bound}
 use Rattle.regent_tree.specs.declared.typing.StaticType.{StaticType}
 use Rattle.regent_tree.specs.declared.typing.StaticType.TheVariants.{Integer as integer_type, Truth as truth_type, Index as index_type, Pointer as pointer_type, Ispace as ispace_type, Region as region_type, Partition as partition_type, Nothing as no_type, Unknown as unknown_type}
-use Rattle.code_rules.specs.Initializers.{names_child}
 use Rattle.code_rules.specs.Instructions.{tasks_of}
 use Rattle.code_rules.specs.Programs.{place_of}
 use Rattle.check_rules.specs.types.Sorts.{is_partition, is_region}
@@ -35,25 +34,14 @@ use Rattle.code_laws.specs.Simple.{a_partition_type, a_region_type, an_integer, 
 use Rattle.code_laws.specs.Steps.{Forms}
 use Rattle.code_laws.specs.Typed.{IsLooped, AreTypedArms, IsBegun, IsDifference, IsKeepable, IsPointing, IsTyped, IsTypedBlock, IsTypedElse, IsTypedForm}
 use Rattle.fit_rules.specs.Shapes.{Each}
-use Rattle.sound_code.specs.WholeTasks.{are_whole_arguments, are_whole_arms, are_whole_expressions, are_whole_links, is_value, is_whole_block, is_whole_else, is_whole_expression, is_whole_form, is_whole_program, is_whole_task, names_region}
+use Rattle.sound_code.specs.WholeTasks.{are_free, are_whole_arguments, are_whole_arms, are_whole_expressions, are_whole_links, is_value, is_whole_block, is_whole_domain, is_whole_else, is_whole_expression, is_whole_form, is_whole_program, is_whole_task, names_region, takes_part}
+use Rattle.sound_code.proofs.Truths.{and_map, or_map, or_maps}
 use Rattle.sound_code.proofs.Wholes.{field_few, HasFew, simple_few}
-
--- ---- truths
-
-both_true : (a b : Bool) → a ≡ true → b ≡ true → (a && b) ≡ true
-both_true a b ea eb = ap (λ y. y && b) ea ∙ eb
-
-and_map : (a b c d : Bool) → (a ≡ true → c ≡ true) → (b ≡ true → d ≡ true) → (a && b) ≡ true → (c && d) ≡ true
-and_map a b c d f g h = let parts = and_parts a b h in both_true c d (f parts.0) (g parts.1)
-
-or_map : (a b c : Bool) → (b ≡ true → c ≡ true) → (a || b) ≡ true → (a || c) ≡ true
-or_map true b c f h = refl
-or_map false b c f h = f h
 
 -- ---- types
 
 value_few : (t : StaticType) → HasFew t → is_value false t ≡ true → is_value true t ≡ true
-value_few (pointer_type k sp args rs) l e = both_true (nat_le (length rs) 4) (not (names_child rs)) (le-leb (length rs) 4 l) e
+value_few (pointer_type k sp args rs) l e = le-leb (length rs) 4 l
 value_few (integer_type w) l e = refl
 value_few truth_type l e = refl
 value_few (index_type k) l e = refl
@@ -194,7 +182,8 @@ mutual
       (expr_few w few e (at_kept n e no_step k)) h
   expr_few w few (access_expr n (at_step e (field_step f no_step))) k h = expr_few w few e (at_kept n e (field_step f no_step) k) h
   expr_few w few (call_expr task args) k h =
-      args_few w few (param_types w.tree (task_named w.tree task)) args (few.tasks task) (kept_behind node (parts_of_expressions args) k) h
+      and_map (are_whole_arguments false w (param_types w.tree (task_named w.tree task)) args) (are_free (task_named w.tree task) args) _ _
+      (args_few w few (param_types w.tree (task_named w.tree task)) args (few.tasks task) (kept_behind node (parts_of_expressions args) k)) (λ q. q) h
   expr_few w few (convert_expr t e) k h = expr_few w few e (kept_behind node (parts_of_expression e) k) h
   expr_few w few (space_expr c e) k h = expr_few w few e (kept_behind node (parts_of_expression e) k) h
   expr_few w few (is_null_expr e) k h = expr_few w few e (kept_behind node (parts_of_expression e) k) h
@@ -212,16 +201,23 @@ mutual
       (expr_few w few e (kept_left (parts_of_expression e) (parts_of_links rest) k))
       (links_few w few rest (kept_right (parts_of_expression e) (parts_of_links rest) k)) h
 
+  part_few : (w : Where) → FewIn w → (e : Expression) → AreKept (parts_of_expression e) → takes_part false w e ≡ true → takes_part true w e ≡ true
+  part_few w few (access_expr n (at_step e no_step)) k h = and_map (is_partition (bound w n).static_type) (is_whole_expression false w e) _ _ (λ r. r)
+      (expr_few w few e (at_kept n e no_step k)) h
+  part_few w few _ k h = absurd (false≢true h)
+
   args_few : (w : Where) → FewIn w → (ps : List StaticType) (es : Expressions) → Each HasFew ps → AreKept (parts_of_expressions es) →
       are_whole_arguments false w ps es ≡ true → are_whole_arguments true w ps es ≡ true
   args_few w few [] no_expr a k h = refl
   args_few w few [] (an_expr e es) a k h = absurd (false≢true h)
   args_few w few (p ∷ ps) no_expr a k h = absurd (false≢true h)
   args_few w few (p ∷ ps) (an_expr e es) a k h =
-      and_map ((is_region p || is_value false p) && (names_region w e || is_whole_expression false w e)) (are_whole_arguments false w ps es) _ _
-      (and_map (is_region p || is_value false p) (names_region w e || is_whole_expression false w e) _ _
+      let here = kept_left (parts_of_expression e) (parts_of_expressions es) k in
+      and_map ((is_region p || is_value false p) && (names_region w e || (takes_part false w e || is_whole_expression false w e))) (are_whole_arguments false w ps es) _ _
+      (and_map (is_region p || is_value false p) (names_region w e || (takes_part false w e || is_whole_expression false w e)) _ _
       (or_map (is_region p) (is_value false p) _ (value_few p a.0))
-      (or_map (names_region w e) (is_whole_expression false w e) _ (expr_few w few e (kept_left (parts_of_expression e) (parts_of_expressions es) k))))
+      (or_map (names_region w e) (takes_part false w e || is_whole_expression false w e) _
+      (or_maps (takes_part false w e) _ (is_whole_expression false w e) _ (part_few w few e here) (expr_few w few e here))))
       (args_few w few ps es a.1 (kept_right (parts_of_expression e) (parts_of_expressions es) k)) h
 
 exprs_few : (w : Where) → FewIn w → (es : Expressions) → AreKept (parts_of_expressions es) → are_whole_expressions false w es ≡ true → are_whole_expressions true w es ≡ true
@@ -316,8 +312,10 @@ module _ (forms : Forms) where
         (block_few w few body (kept_right (parts_of_expression test) (parts_of_block body) k) f.2) h
     form_few w few (for_in_form d n domain body) k f h =
         let lw = looping w n (taken_from (typed w domain)) in
-        and_map (names_region w domain || is_whole_expression false w domain) (is_whole_block false lw body) _ _
-        (or_map (names_region w domain) (is_whole_expression false w domain) _ (expr_few w few domain (kept_left (parts_of_expression domain) (parts_of_block body) k)))
+        let here = kept_left (parts_of_expression domain) (parts_of_block body) k in
+        and_map (is_whole_domain false w domain) (is_whole_block false lw body) _ _
+        (or_map (names_region w domain) (takes_part false w domain || is_whole_expression false w domain) _
+        (or_maps (takes_part false w domain) _ (is_whole_expression false w domain) _ (part_few w few domain here) (expr_few w few domain here)))
         (block_few lw (few_with w few n (taken_from (typed w domain)) (taken_few (typed w domain))) body
         (kept_right (parts_of_expression domain) (parts_of_block body) k) (looped_body forms.keeps w domain _ _ _ f)) h
     form_few w few (for_to_form d n from to body) k f h =
@@ -333,7 +331,9 @@ module _ (forms : Forms) where
     form_few w few (fill_form r fields e) k f h = expr_few w few e (kept_right (nodes fields) (parts_of_expression e) k) h
     form_few w few (assert_form e) k f h = expr_few w few e k h
     form_few w few (print_form alias format args) k f h = exprs_few w few args k h
-    form_few w few (call_form task args) k f h = args_few w few (param_types w.tree (task_named w.tree task)) args (few.tasks task) k h
+    form_few w few (call_form task args) k f h =
+        and_map (are_whole_arguments false w (param_types w.tree (task_named w.tree task)) args) (are_free (task_named w.tree task) args) _ _
+        (args_few w few (param_types w.tree (task_named w.tree task)) args (few.tasks task) k) (λ q. q) h
     form_few w few (assign_form n no_step o e) k f h = and_map (is_value false (bound w n).static_type) (is_whole_expression false w e) _ _
         (value_few (bound w n).static_type (few_bound w.scope.names n few.names)) (expr_few w few e k) h
     form_few w few (assign_form n (field_step l no_step) o y) k f h = expr_few w few y (kept_behind node (parts_of_expression y) k) h

@@ -1,6 +1,6 @@
 -- What is known where a task is looked at by the rules: its program has no breach, what is known of regions is what
 -- clauses tell and what the task made, and regions that have a parameter's number stand in its place.
-use Rattle.std.proofs.Common.{◌≡◌, inr, ⊎_elim, ℕ, ◌<◌, ◌≤◌, List, [], ◌∷◌, ◌++◌, Bool, true, false, refl, ap, ◌∙◌, subst, arith}
+use Rattle.std.proofs.Common.{◌≡◌, inr, ⊎_elim, ℕ, ◌<◌, ◌≤◌, List, [], ◌∷◌, ◌++◌, Bool, true, false, refl, sym, ap, ◌∙◌, subst, arith}
 use Rattle.std.specs.Prelude.{length}
 use Rattle.regent_tree.specs.declared.facts.Known.{Known}
 use Rattle.regent_tree.specs.declared.facts.Known.TheVariants.{Within, Apart, PartOf, Made}
@@ -9,9 +9,12 @@ use Rattle.regent_tree.specs.declared.typing.Bound.{Bound}
 use Rattle.regent_tree.specs.declared.typing.StaticType.{StaticType}
 use Rattle.regent_tree.specs.declared.typing.StaticType.TheVariants.{Partition as partition_type, Region as region_type}
 use Rattle.regent_tree.specs.Scopes.{Scope, knowing, known_of_type, past, scope_of, with_name}
-use Rattle.regent_tree.specs.Syntax.{Tree, TaskTree, Name as Named}
-use Rattle.regent_tree.specs.Typing.{known_of_child, owned}
-use Rattle.regent_tree.proofs.Members.{Has, Has-append_cases}
+use Rattle.regent_tree.specs.Syntax.{Block, Tree, TaskTree, Name as Named}
+use Rattle.regent_tree.specs.Typing.{known_of_child, owned, scope_after_block}
+use Rattle.check_laws.specs.SoundScopes.{Falls}
+use Rattle.code_laws.proofs.KnownHeads.{head_cut, head_looping, head_made, head_named, head_past, KnowsFacts}
+use Rattle.code_laws.proofs.Names.{block_grown, Grown}
+use Rattle.regent_tree.proofs.Members.{Has, Has-append_cases, Has-append_right}
 use Rattle.task_code.specs.declared.code.TaskCode.{TaskCode}
 use Rattle.check_rules.specs.scopes.Sound.{IsSound, IsSoundTask}
 use Rattle.code_rules.specs.Needs.{needs_of_clauses}
@@ -43,6 +46,10 @@ IsPlaced params b = OfType params b.place b.static_type
 
 -- ---- a place
 
+-- names that were bound before others are among these
+grown_has : {before after : List Bound} → Grown before after → (b : Bound) → Has before b → Has after b
+grown_has {before = before} g b h = subst (λ bs. Has bs b) (sym g.are) (Has-append_right g.more before b h)
+
 pub record Kept (t : TaskCode) (task : TaskTree) (tree : Tree) (params : ℕ) (s : Scope) : Type 0 where
   pub sound : IsSound tree
   pub sound_task : IsSoundTask tree task
@@ -52,6 +59,7 @@ pub record Kept (t : TaskCode) (task : TaskTree) (tree : Tree) (params : ℕ) (s
   pub next : params ≤ s.next
   pub placed : Each (IsPlaced params) s.names
   pub begun : (k : Known) → Has (scope_of tree task).known k → IsTold params (opening_facts (by_rules task) tree task) k
+  pub head : KnowsFacts tree task s
 
 abbrev pub Ground : TaskCode → Way → Tree → ℕ → Scope → Type 0
 Ground t all_made tree params s = Unit {0}
@@ -100,8 +108,8 @@ module _ (t : TaskCode) (task : TaskTree) (tree : Tree) (params : ℕ) where
   -- one more name, and what is known with it
   kept_named : (s : Scope) (n : Named) (u : StaticType) (by_loop : Bool) (more : List Known) → Kept t task tree params s →
       OfType params (length s.names) u → ((k : Known) → Has more k → IsTold params ks k) →
-      Kept t task tree params (knowing (with_name s n u by_loop) more)
-  kept_named s n u by_loop more h o tells = record {
+      KnowsFacts tree task (knowing (with_name s n u by_loop) more) → Kept t task tree params (knowing (with_name s n u by_loop) more)
+  kept_named s n u by_loop more h o tells head = record {
     sound = h.sound;
     sound_task = h.sound_task;
     needs = h.needs;
@@ -110,10 +118,11 @@ module _ (t : TaskCode) (task : TaskTree) (tree : Tree) (params : ℕ) where
     next = let l = h.next in omega (arith, l);
     placed = (o, h.placed);
     begun = h.begun;
+    head = head;
   }
 
-  kept_past : (s inner : Scope) → Kept t task tree params s → Kept t task tree params inner → Kept t task tree params (past s inner)
-  kept_past s inner h i = record {
+  kept_past : (s inner : Scope) → ((b : Bound) → Has s.names b → Has inner.names b) → Kept t task tree params s → Kept t task tree params inner → Kept t task tree params (past s inner)
+  kept_past s inner names h i = record {
     sound = h.sound;
     sound_task = h.sound_task;
     needs = h.needs;
@@ -122,6 +131,7 @@ module _ (t : TaskCode) (task : TaskTree) (tree : Tree) (params : ℕ) where
     next = i.next;
     placed = h.placed;
     begun = h.begun;
+    head = head_past tree task s inner names i.head;
   }
 
   none_told : (more : List Known) → more ≡ [] → (k : Known) → Has more k → IsTold params ks k
@@ -138,6 +148,7 @@ module _ (t : TaskCode) (task : TaskTree) (tree : Tree) (params : ℕ) where
     next = let l = h.next in omega (arith, l);
     placed = (o, h.placed);
     begun = h.begun;
+    head = head_looping tree task s n u h.head;
   }
 
 module _ (t : TaskCode) (tree : Tree) (params : ℕ) where
@@ -147,33 +158,46 @@ module _ (t : TaskCode) (tree : Tree) (params : ℕ) where
   ground_looping all_made s n u h g = tt
   ground_looping (by_rules task) s n u h g = kept_looping t task tree params s n u g (worth_itself params _ u h)
 
-  pub ground_past : (way : Way) (s inner : Scope) → Ground t way tree params s → Ground t way tree params inner →
+  pub ground_past : (way : Way) (s inner : Scope) → ((b : Bound) → Has s.names b → Has inner.names b) → Ground t way tree params s → Ground t way tree params inner →
       Ground t way tree params (past s inner)
-  ground_past all_made s inner g h = tt
-  ground_past (by_rules task) s inner g h = kept_past t task tree params s inner g h
+  ground_past all_made s inner names g h = tt
+  ground_past (by_rules task) s inner names g h = kept_past t task tree params s inner names g h
+
+  -- behind a block, of a loop or not
+  pub ground_block : (way : Way) (s : Scope) (b : Block) → Ground t way tree params s → Ground t way tree params (scope_after_block tree s b) →
+      Ground t way tree params (past s (scope_after_block tree s b))
+  ground_block way s b g h = ground_past way s (scope_after_block tree s b) (grown_has (block_grown tree s b)) g h
+
+  pub ground_rounds : (way : Way) (s : Scope) (n : Named) (u : StaticType) (b : Block) → Ground t way tree params s →
+      Ground t way tree params (scope_after_block tree (with_name s n u true) b) → Ground t way tree params (past s (scope_after_block tree (with_name s n u true) b))
+  ground_rounds way s n u b g h = ground_past way s (scope_after_block tree (with_name s n u true) b)
+      (λ c a. grown_has (block_grown tree (with_name s n u true) b) c (inr a)) g h
 
   -- a variable of such a type, as its value's type is or as it is written
   pub ground_plain : (way : Way) (s : Scope) (n : Named) (u : StaticType) → IsWorth u → Ground t way tree params s →
       Ground t way tree params (knowing (with_name s n (owned s.next u) false) (known_of_child s.next u ++ known_of_type (owned s.next u)))
   ground_plain all_made s n u h g = tt
   ground_plain (by_rules task) s n u h g =
-      let none = worth_tells s.next u h in
+      let told = worth_tells s.next u h in
+      let none = ap (λ l. l ++ known_of_type (owned s.next u)) told.0 ∙ told.1 in
       kept_named t task tree params s n (owned s.next u) false _ g (worth_placed params _ s.next u h)
-      (none_told t task tree params _ (ap (λ l. l ++ known_of_type (owned s.next u)) none.0 ∙ none.1))
+      (none_told t task tree params _ none) (head_named tree task s n (owned s.next u) _ g.head none)
 
   pub ground_said : (way : Way) (s : Scope) (n : Named) (from u : StaticType) → known_of_child s.next from ≡ [] → IsWorth u → Ground t way tree params s →
       Ground t way tree params (knowing (with_name s n u false) (known_of_child s.next from ++ known_of_type u))
   ground_said all_made s n from u f h g = tt
   ground_said (by_rules task) s n from u f h g =
+      let none = ap (λ l. l ++ known_of_type u) f ∙ (worth_tells s.next u h).2 in
       kept_named t task tree params s n u false _ g (worth_itself params _ u h)
-      (none_told t task tree params _ (ap (λ l. l ++ known_of_type u) f ∙ (worth_tells s.next u h).2))
+      (none_told t task tree params _ none) (head_named tree task s n u _ g.head none)
 
   pub ground_declared : (way : Way) (s : Scope) (n : Named) (u : StaticType) → IsWorth u → Ground t way tree params s →
       Ground t way tree params (knowing (with_name s n u false) (known_of_type u))
   ground_declared all_made s n u h g = tt
   ground_declared (by_rules task) s n u h g =
+      let none = (worth_tells s.next u h).2 in
       kept_named t task tree params s n u false _ g (worth_itself params _ u h)
-      (none_told t task tree params _ (worth_tells s.next u h).2)
+      (none_told t task tree params _ none) (head_named tree task s n u _ g.head none)
 
   -- a root
   pub ground_root : (way : Way) (s : Scope) (n : Named) (k : _) (sp : ℕ) (args : _) → Ground t way tree params s →
@@ -183,11 +207,13 @@ module _ (t : TaskCode) (tree : Tree) (params : ℕ) where
       let low = g.next in
       kept_named t task tree params s n (region_type k sp args (Name s.next)) false _ g (λ l. absurd (omega (arith, l, low)))
       (λ y i. ⊎_elim (λ e. subst (IsTold params _) e (tells_made s.next low)) (λ b. absurd b) i)
+      (head_made tree task s n (region_type k sp args (Name s.next)) g.head)
 
   -- a partition
-  pub ground_cut : (way : Way) (s : Scope) (n : Named) (d : Bool) (r p : ℕ) → Ground t way tree params s →
-      Ground t way tree params (knowing (with_name s n (partition_type d r p) false) (PartOf p r d ∷ []))
-  ground_cut all_made s n d r p g = tt
-  ground_cut (by_rules task) s n d r p g =
-      kept_named t task tree params s n (partition_type d r p) false _ g tt
-      (λ y i. ⊎_elim (λ e. subst (IsTold params _) e (tells_part p r d)) (λ b. absurd b) i)
+  pub ground_cut : (way : Way) (s : Scope) (n : Named) (d : Bool) (r : ℕ) → Falls s.next s.names → Ground t way tree params s →
+      Ground t way tree params (knowing (with_name s n (partition_type d r s.next) false) (PartOf s.next r d ∷ []))
+  ground_cut all_made s n d r falls g = tt
+  ground_cut (by_rules task) s n d r falls g =
+      kept_named t task tree params s n (partition_type d r s.next) false _ g tt
+      (λ y i. ⊎_elim (λ e. subst (IsTold params _) e (tells_part s.next r d)) (λ b. absurd b) i)
+      (head_cut tree task s n d r falls g.head)

@@ -4,7 +4,8 @@ use Rattle.std.specs.Prelude.{length, nat_le, slice_get}
 use Rattle.std.proofs.lemmas.Bool.{false≢true, le-leb, leb-true}
 use Rattle.std.proofs.lemmas.Option.{none-some, same_Some}
 use Rattle.regent_tree.specs.Accesses.{space_in}
-use Rattle.regent_tree.specs.Syntax.{Expression, Expressions, Name, TaskTree, access_expr, an_expr, no_expr, no_step}
+use Rattle.regent_tree.specs.Syntax.{Expression, Expressions, Name, TaskTree, access_expr, an_expr, at_step, no_expr, no_step}
+use Rattle.regent_tree.specs.Typing.{parent_of}
 use Rattle.regent_tree.specs.declared.facts.Term.TheVariants as term
 use Rattle.regent_tree.specs.declared.typing.StaticType.{StaticType}
 use Rattle.regent_tree.specs.declared.typing.StaticType.TheVariants.{Region as region_type}
@@ -18,12 +19,12 @@ use Rattle.code_rules.specs.Expressions.{count}
 use Rattle.code_rules.specs.Instructions.{converted_code}
 use Rattle.code_rules.specs.Pieces.{empty, op}
 use Rattle.code_rules.specs.Slots.{Where, bound, typed}
-use Rattle.code_laws.specs.Simple.{AreRegions, IsRegion, a_region_type, simple_index, simple_integer, simple_space, simple_truth, two_regions}
+use Rattle.code_laws.specs.Simple.{AreRegions, IsPartition, IsRegion, a_region_type, simple_index, simple_integer, simple_space, simple_truth, two_regions}
 use Rattle.code_laws.specs.Steps.{Forms, Taking}
-use Rattle.code_laws.specs.Arguments.{IsHanded, name_at, name_of}
+use Rattle.code_laws.specs.Arguments.{IsHanded, name_at, name_of, parent_bound, part_at, part_of}
 use Rattle.code_laws.specs.Typed.{ArePassed, IsIndexed, IsTyped}
 use Rattle.code_laws.proofs.Arguments.{IsNoRegion, first_region, handed_name, named_typed, region_other}
-use Rattle.fit_rules.specs.Shapes.{argument, Are, are_more, Each, Is, is_number, is_region, IsRegion as IsRegionValue, IsWhole, Origin, own_as, region, Shape, unknown, World}
+use Rattle.fit_rules.specs.Shapes.{argument, ComesFrom, LiesIn, part, Are, are_more, Each, Is, is_number, is_region, IsRegion as IsRegionValue, IsWhole, Origin, own_as, region, Shape, unknown, World}
 use Rattle.fit_rules.specs.Marks.{Mark, stacked}
 use Rattle.fit_rules.specs.Fits.{Program}
 use Rattle.fit_rules.specs.Sound.{does_load, Settled, settled_region}
@@ -33,11 +34,12 @@ use Rattle.sound_code.specs.Named.{slot_at}
 use Rattle.sound_code.specs.Ways.{by_rules, shape_in, shape_of}
 use Rattle.sound_code.specs.WholeTasks.{are_whole_arguments}
 use Rattle.sound_code.proofs.Wholes.{Asks, asks_first, asks_second, given_whole, IsWorth, worth_pointer, worth_settled, worth_simple}
+use Rattle.sound_code.proofs.Parts.{part_regions}
 use Rattle.sound_code.proofs.Combining.{does, Marked}
 use Rattle.sound_code.proofs.Interpreting.{high_region, low_region, made_at, meant, region_at, taken_at}
 use Rattle.regent_tree.specs.declared.facts.Term.{Term}
 
-is_below : (a b : ℕ) → nat_le a b ≡ false → b < a
+pub is_below : (a b : ℕ) → nat_le a b ≡ false → b < a
 is_below a b e = elim (below b a) [
   | inl l ↦ l
   | inr h ↦ absurd (false≢true (sym e ∙ le-leb a b h))
@@ -51,9 +53,14 @@ given_in params (region_type k sp args (term.Name i)) = region (Some sp) (cond (
 given_in params (region_type k sp args (term.Child p c)) = region (Some sp) unknown
 given_in params u = shape_of u
 
+-- a part lies within such a region
+abbrev pub given_part : ℕ → ℕ → ℕ → Shape
+given_part params sp i = region (Some sp) (part (cond (nat_le params i) (own_as i) (argument i)))
+
 -- the shape of an argument for a parameter of a type
 abbrev pub handed : Where → StaticType → Expression → Shape
 handed w (region_type k sp args r) (access_expr n no_step) = given_in w.params (bound w n).static_type
+handed w (region_type k sp args r) (access_expr n (at_step e no_step)) = given_part w.params sp (parent_of (bound w n).static_type)
 handed w p e = shape_of p
 
 abbrev pub all_handed : Where → List StaticType → Expressions → List Shape
@@ -71,8 +78,12 @@ pub region_handed : (w : Where) (n : Name) (u p : StaticType) → AreRegions u p
     handed w p (access_expr n no_step) ≡ given_in w.params (bound w n).static_type
 region_handed w n _ _ (two_regions c d sp args brgs r q) = refl
 
+pub part_handed : (w : Where) (n : Name) (e : Expression) (u p : StaticType) → AreRegions u p →
+    handed w p (access_expr n (at_step e no_step)) ≡ given_part w.params (space_in p) (parent_of (bound w n).static_type)
+part_handed w n e _ _ (two_regions c d sp args brgs r q) = refl
+
 -- a region isn't converted
-same_code : (w : Where) (u p : StaticType) → AreRegions u p → converted_code w u p ≡ empty
+pub same_code : (w : Where) (u p : StaticType) → AreRegions u p → converted_code w u p ≡ empty
 same_code w _ _ (two_regions c d sp args brgs r q) = refl
 
 pub handed_unconverted : (w : Where) (y : Taking) (u p : StaticType) (e : Expression) → IsHanded (Some y) w u p e →
@@ -97,7 +108,8 @@ module _ (forms : Forms) (w : Where) where
         (λ y takes q.
         let n = handed_name y w t p e q in
         subst (λ a. Settled (handed w p a)) (sym n.1)
-        (subst Settled (sym (region_handed w n.0 _ p n.4)) (given_settled w.params _ (first_region _ p n.4)))) h.0,
+        (subst Settled (sym (region_handed w n.0 _ p n.4)) (given_settled w.params _ (first_region _ p n.4))))
+        (λ b a. subst (λ y. Settled (handed w p y)) (sym a.is) (subst Settled (sym (part_handed w a.name a.index _ p a.regions)) (settled_region _ _))) h.0,
     all_settled ts ps es h.1 (asks_second _ _ _ asks),
   )
   all_settled [] [] (an_expr e es) h asks = absurd h
@@ -190,6 +202,20 @@ any_given x params _ _ v (two_regions c d sp args brgs r q) h = by r v h
     by (term.Name i) v h = of _ v h
     by (term.Child p a) v h = of _ v h
 
+pub any_of : (x : World) (sp : ℕ) (o : Origin) (v : Value) → Is x (region (Some sp) o) v → IsAny x sp v
+any_of x sp o _ (is_region _ _ r i) = record { it = r; is = refl; of_space = any_region x (Some sp) o r i }
+any_of x sp o _ (is_number _ z i) = absurd i
+
+-- a part: a region that lies within that of its number
+pub record IsGivenPart (x : World) (params i : ℕ) (r : RegionValue) : Type 0 where
+  pub whole : RegionValue
+  pub from : ComesFrom x (cond (nat_le params i) (own_as i) (argument i)) whole
+  pub inside : LiesIn r whole
+
+pub given_within : (x : World) (params sp i : ℕ) (v : Value) → Is x (given_part params sp i) v → (q : RegionValue) → region_in (Some v) ≡ Some q → IsGivenPart x params i q
+given_within x params sp i _ (is_region _ _ r h) q e = subst (IsGivenPart x params i) (same_Some r q e) (record { whole = h.origin.0; from = h.origin.1; inside = h.origin.2 })
+given_within x params sp i _ (is_number _ z h) q e = absurd h
+
 -- ---- the argument at a place
 
 pub record IsArgument (x : World) (ws : List Value) (k : ℕ) (s : Shape) : Type 0 where
@@ -212,10 +238,49 @@ module _ (forms : Forms) (w : Where) (x : World) where
         it = v;
         at = refl;
         of = subst (λ s. Is x s v) (ap (handed w p) b.1 ∙ region_handed w b.0 _ p b.4 ∙ ap (λ a. given_in w.params (bound w a).static_type) one) i;
-      }) h.0
+      }) (λ b a. absurd (none-some n (sym (ap name_of a.is) ∙ en))) h.0
   argument_at (t ∷ ts) (p ∷ ps) (an_expr e es) _ (suc k) n h asks (are_more _ v _ vs i a) en r =
       let more = argument_at ts ps es vs k n h.1 (asks_second _ _ _ asks) a en r in record { it = more.it; at = more.at; of = more.of }
   argument_at ts ps no_expr ws k n h asks a en r = absurd (none-some n en)
   argument_at [] [] (an_expr e es) ws k n h asks a en r = absurd h
   argument_at [] (p ∷ ps) (an_expr e es) ws k n h asks a en r = absurd h
   argument_at (t ∷ ts) [] (an_expr e es) ws k n h asks a en r = absurd h
+
+  -- so of a part
+  pub record IsPartGiven (ws : List Value) (k : ℕ) (n : Name) : Type 0 where
+    pub space : ℕ
+    pub same : space ≡ space_in (parent_bound w n).static_type
+    pub given : IsArgument x ws k (given_part w.params space (parent_of (bound w n).static_type))
+
+  part_typed : (e : Expression) (q : Name × Expression) → part_of e ≡ Some q → IsTyped forms w e → IsPartition (bound w q.0).static_type → ⊥
+  part_typed (access_expr n (at_step i no_step)) q e f c =
+      region_cut (bound w n).static_type f.4 (subst (λ (y : Name × Expression). IsPartition (bound w y.0).static_type) (sym (same_Some (n, i) q e)) c)
+    where
+      region_cut : (u : StaticType) → IsRegion u → IsPartition u → ⊥
+      region_cut _ (a_region_type k sp args r) c = elim c [ ]
+  part_typed _ q e f c = absurd (none-some q e)
+
+  pub part_argument_at : (ts ps : List StaticType) (es : Expressions) (ws : List Value) (k : ℕ) (q : Name × Expression) → ArePassed forms w ts ps es →
+      Asks forms.keeps (are_whole_arguments true w ps es) → Are x (all_handed w ps es) ws → part_at es k ≡ Some q → IsPartition (bound w q.0).static_type →
+      IsPartGiven ws k q.0
+  part_argument_at (t ∷ ts) (p ∷ ps) (an_expr e es) _ zero q h asks (are_more _ v _ vs i a) eq c =
+      given_whole forms.keeps forms.takes w t p e (IsTyped forms w e) (IsIndexed forms w e) (IsPartGiven (v ∷ vs) 0 q.0) (asks_first _ _ _ asks)
+      (λ enters is. absurd (part_typed e q eq is c))
+      (λ y takes b. absurd (none-some q (sym (ap part_of (handed_name y w t p e b).1) ∙ eq)))
+      (λ b d.
+      subst (λ (y : Name × Expression). IsPartGiven (v ∷ vs) 0 y.0) (same_Some (d.name, d.index) q (sym (ap part_of d.is) ∙ eq)) (record {
+        space = space_in p;
+        same = part_regions w d.name d.index p d.cut.partition (subst (λ y. AreRegions (typed w y) p) d.is d.regions);
+        given = record {
+          it = v;
+          at = refl;
+          of = subst (λ s. Is x s v) (ap (handed w p) d.is ∙ part_handed w d.name d.index _ p d.regions) i;
+        };
+      })) h.0
+  part_argument_at (t ∷ ts) (p ∷ ps) (an_expr e es) _ (suc k) q h asks (are_more _ v _ vs i a) eq c =
+      let more = part_argument_at ts ps es vs k q h.1 (asks_second _ _ _ asks) a eq c in
+      record { space = more.space; same = more.same; given = record { it = more.given.it; at = more.given.at; of = more.given.of } }
+  part_argument_at ts ps no_expr ws k q h asks a eq c = absurd (none-some q eq)
+  part_argument_at [] [] (an_expr e es) ws k q h asks a eq c = absurd h
+  part_argument_at [] (p ∷ ps) (an_expr e es) ws k q h asks a eq c = absurd h
+  part_argument_at (t ∷ ts) [] (an_expr e es) ws k q h asks a eq c = absurd h

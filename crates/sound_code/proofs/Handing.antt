@@ -1,7 +1,7 @@
 -- Calls, also those that hand regions over: what is handed is what the called task needs, and the frame which the call
 -- opens suits the mark in which the task's body begins.
-use Rattle.std.proofs.Common.{◌≡◌, inl, inr, ℕ, suc, ◌+◌, ◌<◌, ◌-◌, pos, List, [], ◌∷◌, ◌++◌, map, Bool, true, Option, None, Some, refl, sym, ap, ◌∙◌, subst, arith, cond}
-use Rattle.std.specs.Prelude.{length, replicate, slice_get, ◌==◌, ◌&&◌}
+use Rattle.std.proofs.Common.{◌≡◌, inl, inr, ℕ, suc, ◌+◌, ◌<◌, ◌-◌, pos, List, [], ◌∷◌, ◌++◌, map, Bool, true, Option, None, Some, refl, sym, ap, ◌∙◌, subst, arith, cond, ◌⊎◌, ⊎_elim, false}
+use Rattle.std.specs.Prelude.{length, nat_le, replicate, slice_get, ◌==◌, ◌&&◌}
 use Rattle.std.specs.List.{list_any}
 use Rattle.std.proofs.lemmas.Bool.{and_parts, eqb-true, or_cases}
 use Rattle.std.proofs.lemmas.Option.{none-some, same_Some}
@@ -16,7 +16,7 @@ use Rattle.regent_tree.specs.Facts.{is_subregion}
 use Rattle.regent_tree.specs.Scopes.{scope_of}
 use Rattle.regent_tree.specs.StaticTypes.{space_at, task_named}
 use Rattle.regent_tree.specs.Syntax.{Expression, Expressions, Name, TaskTree, an_expr, no_expr}
-use Rattle.regent_tree.specs.Typing.{param_types}
+use Rattle.regent_tree.specs.Typing.{param_types, parent_of}
 use Rattle.regent_tree.specs.declared.facts.Term.{Term}
 use Rattle.regent_tree.specs.declared.facts.Term.TheVariants as term
 use Rattle.regent_tree.specs.declared.typing.StaticType.{StaticType}
@@ -31,15 +31,15 @@ use Rattle.machine_terms.specs.Pointers.{region_in}
 use Rattle.code_rules.specs.Expressions.{count, expr_code}
 use Rattle.code_rules.specs.Instructions.{one, place_of_task}
 use Rattle.code_rules.specs.Programs.{task_code}
-use Rattle.code_rules.specs.Slots.{Where, bound, slot_named}
+use Rattle.code_rules.specs.Slots.{Where, bound, slot_named, typed}
 use Rattle.code_laws.specs.Simple.{AreRegions, IsRegion, a_region_type, term_in, two_regions}
 use Rattle.code_laws.specs.Steps.{Forms, Taking}
 use Rattle.code_laws.specs.Taking.{MayDo, allows, is_need, is_part, known_of_pairs, pairs_in}
-use Rattle.code_laws.specs.Arguments.{AreMet, IsHanded, IsMet, name_at}
+use Rattle.code_laws.specs.Arguments.{AreMet, IsCutName, IsHanded, IsMet, IsMetAt, IsMetPart, name_at, parent_bound, part_at}
 use Rattle.code_laws.specs.Typed.{ArePassed, IsCallable, IsIndexed, IsTyped}
 use Rattle.code_laws.proofs.Arguments.{handed_name}
 use Rattle.code_laws.proofs.Calling.{code_there}
-use Rattle.fit_rules.specs.Shapes.{Among, Are, are_more, are_none, awaited, Each, Is, is_region, IsRegion as IsRegionValue, region, Shape, World, unknown, argument, own_as}
+use Rattle.fit_rules.specs.Shapes.{ComesFrom, Among, Are, are_more, are_none, awaited, Each, Is, is_region, IsRegion as IsRegionValue, region, Shape, World, unknown, argument, own_as}
 use Rattle.fit_rules.specs.Marks.{Mark, stacked, Suits}
 use Rattle.fit_rules.specs.Fits.{count_at, Declares, declares_it, made_it, Program}
 use Rattle.fit_rules.specs.Ends.{called, IsNeeded}
@@ -49,15 +49,16 @@ use Rattle.fit_laws.proofs.Within.{covered_needs_are_within}
 use Rattle.marked_code.proofs.Placed.{below}
 use Rattle.marked_code.specs.Marked.{leads_calling, typed_op}
 use Rattle.sound_code.specs.Ways.{by_rules, shape_in, shape_of, Way, opening_facts}
-use Rattle.sound_code.specs.WholeTasks.{are_whole_arguments}
-use Rattle.sound_code.proofs.Wholes.{Asks, asks_first, asks_second, given_whole, IsWorth, met_whole, worth_named}
+use Rattle.sound_code.specs.WholeTasks.{are_free, are_whole_arguments}
+use Rattle.sound_code.proofs.Wholes.{Asks, asks_first, asks_second, given_whole, IsWorth, worth_named}
+use Rattle.sound_code.proofs.Parts.{parent_named}
 use Rattle.sound_code.proofs.Asked.{Asked, Hands, hands_none, hands_taken, Known}
 use Rattle.sound_code.proofs.Calling.{nothing_needed, onto, opening_suits, opens, passed_many, passed_worth, some_body, takes_settled, types_many, worth_is}
 use Rattle.sound_code.proofs.Combining.{both, Marked, nothing_done}
 use Rattle.sound_code.proofs.Elements.{field_there}
 use Rattle.sound_code.proofs.Parameters.{AreAt, IsLow, IsOwnAt, params_low, params_own}
 use Rattle.sound_code.proofs.Placing.{named_at}
-use Rattle.sound_code.proofs.Handed.{IsAny, IsArgument, all_handed, all_long, all_settled, any_given, argument_at, given_in, handed, is_given_region, region_handed, region_loaded, worth_handed, worths_handed}
+use Rattle.sound_code.proofs.Handed.{any_of, given_part, given_within, is_below, IsPartGiven, part_argument_at, part_handed, IsAny, IsArgument, all_handed, all_long, all_settled, any_given, argument_at, given_in, handed, is_given_region, region_handed, region_loaded, worth_handed, worths_handed}
 use Rattle.sound_code.proofs.Grounds.{Ground, HasFacts, Kept}
 use Rattle.sound_code.proofs.Interpreting.{not_below}
 use Rattle.sound_code.proofs.Told.{ToldCall}
@@ -67,11 +68,10 @@ use Rattle.sound_code.proofs.Constraining.{facts_told}
 
 -- ---- what the called task needs
 
-met_at : (b : Bool) (o : Option Taking) (w : Where) (ps : List StaticType) (es : Expressions) (ns : List NeedCode) (n : NeedCode) → Asks b (are_whole_arguments true w ps es) → Among ns n →
-    AreMet b o w es ns → IsMet o w n (name_at es n.param)
-met_at b o w ps es [] n asks h a = absurd h
-met_at b o w ps es (m ∷ ns) n asks (inl e) a = subst (λ (d : NeedCode). IsMet o w d (name_at es d.param)) e (met_whole b o w ps es m asks a.0)
-met_at b o w ps es (m ∷ ns) n asks (inr h) a = met_at b o w ps es ns n asks h a.1
+met_at : (b : Bool) (o : Option Taking) (w : Where) (es : Expressions) (ns : List NeedCode) (n : NeedCode) → Among ns n → AreMet b o w es ns → IsMetAt b o w es n
+met_at b o w es [] n h a = absurd h
+met_at b o w es (m ∷ ns) n (inl e) a = subst (IsMetAt b o w es) e a.0
+met_at b o w es (m ∷ ns) n (inr h) a = met_at b o w es ns n h a.1
 
 -- it is of a region that has a name
 pub record IsNeedOf (y : Taking) (w : Where) (need : NeedCode) (o : Option Name) : Type 0 where
@@ -84,6 +84,25 @@ pub record IsNeedOf (y : Taking) (w : Where) (need : NeedCode) (o : Option Name)
 need_of : (y : Taking) (w : Where) (need : NeedCode) (o : Option Name) → IsMet (Some y) w need o → IsNeedOf y w need o
 need_of y w need None h = absurd h
 need_of y w need (Some n) h = record { name = n; stands = refl; of_region = h.1; field = h.2; may = h.3 }
+
+-- or of a part, and may be done with the whole
+pub record IsPartNeed (y : Taking) (w : Where) (need : NeedCode) (o : Option (Name × Expression)) : Type 0 where
+  pub it : Name × Expression
+  pub stands : o ≡ Some it
+  pub cut : IsCutName w it.0
+  pub field : need.field < length (space_at w.tree (space_in (parent_bound w it.0).static_type)).fields
+  pub may : MayDo (Some y) (term_in (parent_bound w it.0).static_type) need.field need.mode
+
+part_need_of : (y : Taking) (w : Where) (need : NeedCode) (o : Option (Name × Expression)) → IsMetPart (Some y) w need o → IsPartNeed y w need o
+part_need_of y w need None h = absurd h
+part_need_of y w need (Some q) h = record { it = q; stands = refl; cut = h.0; field = h.1; may = h.2 }
+
+abbrev pub IsWant : Bool → Taking → Where → Expressions → NeedCode → Type 0
+IsWant b y w es n = IsNeedOf y w n (name_at es n.param) ⊎ ((b ≡ true) × IsPartNeed y w n (part_at es n.param))
+
+want_of : (b : Bool) (y : Taking) (w : Where) (es : Expressions) (n : NeedCode) → IsMetAt b (Some y) w es n → IsWant b y w es n
+want_of false y w es n m = inl (need_of y w n (name_at es n.param) m)
+want_of true y w es n m = ⊎_elim (λ a. inl (need_of y w n (name_at es n.param) a)) (λ a. inr (refl, part_need_of y w n (part_at es n.param) a)) m
 
 module _ (g : Program) (t : TaskCode) (w : Where) (task : TaskTree) (known : Known (by_rules task) g w.tree) (ep : w.params ≡ t.params)
     (kept : Kept t task w.tree w.params w.scope) (m : Mark) (facts : HasFacts (by_rules task) w.tree m.facts)
@@ -153,6 +172,36 @@ module _ (g : Program) (t : TaskCode) (w : Where) (task : TaskTree) (known : Kno
         ])
     granted_of need _ ws (a_region_type c sp args (term.Child q d)) l may a r er p = absurd may
 
+    -- so of a part
+    needed_part : (need : NeedCode) (sp i : ℕ) (ws : List Value) → need.field < length (space_at w.tree sp).fields →
+        IsArgument x ws need.param (given_part w.params sp i) → IsNeeded g x ws need
+    needed_part need sp i ws l a =
+        let q = any_of x sp _ a.it a.of in record {
+          region = q.it;
+          argument = ap region_in (a.at ∙ ap Some q.is);
+          there = q.of_space.there;
+          field = has_field q.it.root.0 sp need.field q.of_space.space l;
+        }
+
+    whole_granted : (need : NeedCode) (sp i : ℕ) (whole : RegionValue) (b : Bool) → nat_le w.params i ≡ b → ComesFrom x (cond b (own_as i) (argument i)) whole →
+        x.spaces whole.root.0 ≡ sp → need.field < length (space_at w.tree sp).fields → MayDo (Some y) (term.Name i) need.field need.mode → (p : ℕ) →
+        has whole.points p ≡ true → IsGranted g x t whole.root.0 need.field p need.mode
+    whole_granted need sp i whole false e from s l may p ip =
+        let low = is_below w.params i e in declared need i whole p low (may (omega (arith, low, ep, params))) from ip
+    whole_granted need sp i whole true e from s l may p ip =
+        inl (made_it need.mode from.0.0 (subst (λ xs. has xs p ≡ true) from.0.1 ip) (has_field whole.root.0 sp need.field s l))
+
+    granted_part : (need : NeedCode) (sp i : ℕ) (ws : List Value) → need.field < length (space_at w.tree sp).fields → MayDo (Some y) (term.Name i) need.field need.mode →
+        IsArgument x ws need.param (given_part w.params sp i) → (r : RegionValue) → region_in (slice_get ws need.param) ≡ Some r → (p : ℕ) →
+        has r.points p ≡ true → IsGranted g x t r.root.0 need.field p need.mode
+    granted_part need sp i ws l may a r er p ip =
+        let h = given_within x w.params sp i a.it a.of r (sym (ap region_in a.at) ∙ er) in
+        let q = any_of x sp _ a.it a.of in
+        let one : q.it ≡ r = same_Some q.it r (sym (ap region_in (a.at ∙ ap Some q.is)) ∙ er) in
+        let space = ap x.spaces (sym h.inside.0) ∙ subst (λ (d : RegionValue). x.spaces d.root.0 ≡ sp) one q.of_space.space in
+        subst (λ n. IsGranted g x t n need.field p need.mode) (sym h.inside.0)
+        (whole_granted need sp i h.whole (nat_le w.params i) refl h.from space l may p (h.inside.1 p ip))
+
 -- ---- arguments as the called task has them
 
 module _ (forms : Forms) (w : Where) (u : TaskTree) (n : ℕ) (x : World) (all : List Value) where
@@ -185,7 +234,11 @@ module _ (forms : Forms) (w : Where) (u : TaskTree) (n : ℕ) (x : World) (all :
       let here : k + 0 ≡ k = omega arith in
       region_taken (bound w b.0).static_type p v k b.4 l.0 o.0 (subst (λ j. slice_get all j ≡ Some v) here (at 0 v refl))
       (any_given x w.params (bound w b.0).static_type p v b.4
-      (subst (λ s. Is x s v) (ap (handed w p) b.1 ∙ region_handed w b.0 _ p b.4) i))) h.0)
+      (subst (λ s. Is x s v) (ap (handed w p) b.1 ∙ region_handed w b.0 _ p b.4) i)))
+      (λ keeps b.
+      let here : k + 0 ≡ k = omega arith in
+      region_taken (typed w e) p v k b.regions l.0 o.0 (subst (λ j. slice_get all j ≡ Some v) here (at 0 v refl))
+      (any_of x (space_in p) _ v (subst (λ s. Is x s v) (ap (handed w p) b.is ∙ part_handed w b.name b.index _ p b.regions) i))) h.0)
       (are_taken (suc k) ts ps es vs l.1 o.1 (λ j z e.
       let next : k + suc j ≡ suc k + j = omega arith in subst (λ c. slice_get all c ≡ Some z) next (at (suc j) z e)) h.1 (asks_second _ _ _ asks) a)
   are_taken k [] [] (an_expr e es) ws l o at h asks a = absurd h
@@ -213,7 +266,7 @@ module _ (g : Program) (t : TaskCode) (k slots : ℕ) (forms : Forms) (way : Way
 
   module _ (name : Name) (ts : List StaticType) (es : Expressions) (us : List Shape) (is : IsCallable forms w name es)
       (passed : ArePassed forms w ts (param_types w.tree (task_named w.tree name)) es) (whole : Asks forms.keeps (are_whole_arguments true w (param_types w.tree (task_named w.tree name)) es))
-      (told : ToldCall way w.tree w.scope name es) where
+      (free : Asks forms.keeps (are_free (task_named w.tree name) es)) (told : ToldCall way w.tree w.scope name es) where
     abbrev callee : TaskTree
     callee = task_named w.tree name
 
@@ -229,13 +282,20 @@ module _ (g : Program) (t : TaskCode) (k slots : ℕ) (forms : Forms) (way : Way
     abbrev before : Mark
     before = stacked m (onto shapes us)
 
-    need_at : (y : Taking) → forms.takes ≡ Some y → (n : NeedCode) → Among (task_code w.tree callee).needs n → IsNeedOf y w n (name_at es n.param)
-    need_at y takes n h = need_of y w n (name_at es n.param) (met_at forms.keeps (Some y) w types es (task_code w.tree callee).needs n whole h
+    need_at : (y : Taking) → forms.takes ≡ Some y → (n : NeedCode) → Among (task_code w.tree callee).needs n → IsWant forms.keeps y w es n
+    need_at y takes n h = want_of forms.keeps y w es n (met_at forms.keeps (Some y) w es (task_code w.tree callee).needs n h
         (subst (λ o. AreMet forms.keeps o w es (task_code w.tree callee).needs) takes is.1))
 
     need_place : (y : Taking) (x : World) (ws : List Value) → Are x shapes ws → (n : NeedCode) (q : IsNeedOf y w n (name_at es n.param)) →
         IsArgument x ws n.param (given_in w.params (bound w q.name).static_type)
     need_place y x ws a n q = argument_at forms w x ts types es ws n.param q.name passed whole a q.stands q.of_region
+
+    part_place : (y : Taking) (x : World) (ws : List Value) → Are x shapes ws → (n : NeedCode) (q : IsPartNeed y w n (part_at es n.param)) → IsPartGiven forms w x ws n.param q.it.0
+    part_place y x ws a n q = part_argument_at forms w x ts types es ws n.param q.it passed whole a q.stands q.cut.partition
+
+    part_field : (x : World) (ws : List Value) (n : NeedCode) (p : Name) (d : IsPartGiven forms w x ws n.param p) →
+        n.field < length (space_at w.tree (space_in (parent_bound w p).static_type)).fields → n.field < length (space_at w.tree d.space).fields
+    part_field x ws n p d l = subst (λ sp. n.field < length (space_at w.tree sp).fields) (sym d.same) l
 
     taken_opens : (task : TaskTree) (y : Taking) → way ≡ by_rules task → forms.takes ≡ Some y → y.params ≡ t.params → y.needs ≡ t.needs →
         y.within ≡ pairs_in (scope_of w.tree task).known → Opens g t before place (task_code w.tree callee) shapes
@@ -249,14 +309,25 @@ module _ (g : Program) (t : TaskCode) (k slots : ℕ) (forms : Forms) (way : Way
               (opening_suits (by_rules callee) w.tree callee x ws
               (are_taken forms w callee (length callee.params) x ws 0 ts types es ws (params_low w.tree callee) (params_own w.tree callee) (λ i v e.
               let from : 0 + i ≡ i = omega arith in subst (λ j. slice_get ws j ≡ Some v) (sym from) e) passed whole a)
-              (facts_told task t w kept before facts asked.params x vs st ws knows s forms y takes name ts es is passed whole a
+              (facts_told task t w kept before facts asked.params x vs st ws knows s forms y takes name ts es is passed whole free a
               (subst (λ v. ToldCall v w.tree w.scope name es) by told))),
-          each_needed (task_code w.tree callee).needs (λ n h.
-              let q = need_at y takes n h in
-              needed_of g t w task known asked.params kept before facts y params needs within x vs st s n (bound w q.name).static_type ws q.of_region q.field (of n q)),
-          covered_needs_are_within g x t (task_code w.tree callee).needs ws (λ n h r er p ip.
-              let q = need_at y takes n h in
-              granted_of g t w task known asked.params kept before facts y params needs within x vs st s n (bound w q.name).static_type ws q.of_region q.field q.may (of n q) r er p ip),
+          each_needed (task_code w.tree callee).needs (λ n h. ⊎_elim
+              (λ (q : IsNeedOf y w n (name_at es n.param)).
+              needed_of g t w task known asked.params kept before facts y params needs within x vs st s n (bound w q.name).static_type ws q.of_region q.field (of n q))
+              (λ c.
+              let q = c.1 in
+              let d = part_place y x ws a n q in
+              needed_part g t w task known asked.params kept before facts y params needs within x vs st s n d.space (parent_of (bound w q.it.0).static_type) ws
+              (part_field x ws n q.it.0 d q.field) d.given) (need_at y takes n h)),
+          covered_needs_are_within g x t (task_code w.tree callee).needs ws (λ n h r er p ip. ⊎_elim
+              (λ (q : IsNeedOf y w n (name_at es n.param)).
+              granted_of g t w task known asked.params kept before facts y params needs within x vs st s n (bound w q.name).static_type ws q.of_region q.field q.may (of n q) r er p ip)
+              (λ c.
+              let q = c.1 in
+              let d = part_place y x ws a n q in
+              granted_part g t w task known asked.params kept before facts y params needs within x vs st s n d.space (parent_of (bound w q.it.0).static_type) ws
+              (part_field x ws n q.it.0 d q.field)
+              (subst (λ u. MayDo (Some y) u n.field n.mode) (parent_named g t k slots forms way w m asked q.it.0 c.0 q.cut) q.may) d.given r er p ip) (need_at y takes n h)),
         )
       where
         each_needed : (ns : List NeedCode) → ((n : NeedCode) → Among ns n → IsNeeded g x ws n) → Each (IsNeeded g x ws) ns

@@ -7,12 +7,16 @@ pub mod Asked
 pub mod Counting
 pub mod Wholes
 pub mod NoCuts
+pub mod Truths
 pub mod Few
 pub mod Scoped
+pub mod Besides
+pub mod Taken
 pub mod Elements
 pub mod Through
 pub mod Pointing
 pub mod Cutting
+pub mod Parts
 pub mod Calling
 pub mod Declaring
 pub mod Lying
@@ -42,6 +46,7 @@ pub mod Filling
 pub mod Domains
 pub mod Behind
 pub mod Bindings
+pub mod Copies
 pub mod Blocks
 pub mod Tasks
 pub mod Entries

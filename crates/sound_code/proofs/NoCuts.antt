@@ -38,7 +38,7 @@ no_cuts forms w [] [] no_expr h asks = tt
 no_cuts forms w (t ∷ ts) (p ∷ ps) (an_expr e es) h asks = (
   given_whole forms.keeps forms.takes w t p e (IsTyped forms w e) (IsIndexed forms w e) (IsNoPartition p) (asks_first _ _ _ asks)
       (λ enters is. worth_no_partition p enters.worth)
-      (λ y takes q. regions_no_partition _ p (handed_name y w t p e q).4) h.0,
+      (λ y takes q. regions_no_partition _ p (handed_name y w t p e q).4) (λ b a. regions_no_partition _ p a.regions) h.0,
   no_cuts forms w ts ps es h.1 (asks_second _ _ _ asks),
 )
 no_cuts forms w [] [] (an_expr e es) h asks = absurd h

@@ -1,8 +1,9 @@
 -- Roots that are made under the numbers of names: a root is made under a number that no name has.
-use Rattle.std.proofs.Common.{◌≡◌, ◌≢◌, inl, inr, ℕ, zero, suc, ◌<◌, ◌+◌, List, [], ◌∷◌, map, cond, Some, sym, ap, subst, arith}
-use Rattle.std.specs.Prelude.{slice_set}
-use Rattle.std.proofs.lemmas.Bool.{le-leb}
-use Rattle.regent_tree.specs.Scopes.{Scope}
+use Rattle.std.proofs.Common.{◌≡◌, ◌≢◌, inl, inr, ℕ, zero, suc, ◌<◌, ◌+◌, List, [], ◌∷◌, map, Bool, true, false, cond, Some, refl, sym, ap, subst, arith}
+use Rattle.std.specs.Prelude.{slice_get, slice_set, ◌==◌}
+use Rattle.std.proofs.lemmas.Option.{none-some, same_Some}
+use Rattle.std.proofs.lemmas.Bool.{eqb-true, le-leb}
+use Rattle.regent_tree.specs.Scopes.{bound_as, Scope}
 use Rattle.regent_tree.specs.StaticTypes.{Reach}
 use Rattle.regent_tree.specs.Syntax.{Form, Tree}
 use Rattle.regent_tree.specs.declared.facts.Term.TheVariants as term
@@ -12,10 +13,10 @@ use Rattle.regent_tree.specs.declared.typing.StaticType.{StaticType}
 use Rattle.regent_tree.specs.declared.typing.StaticType.TheVariants.{Region as region_type}
 use Rattle.machine_terms.specs.declared.value.Value.{Value}
 use Rattle.check_laws.specs.SoundScopes.{Falls}
-use Rattle.code_laws.specs.Simple.{IsSimple, simple_index, simple_integer, simple_space, simple_truth}
-use Rattle.fit_rules.specs.Shapes.{Among, Each, Shape, anything, integer, truth, index, pointer, space, region, partition, awaited, unknown, argument, own_root, own_as, World, Is, is_number, is_region}
-use Rattle.fit_rules.specs.Sound.{IsOther}
-use Rattle.sound_code.specs.Named.{IsNumbered}
+use Rattle.code_laws.specs.Simple.{IsRegion, IsSimple, simple_index, simple_integer, simple_space, simple_truth}
+use Rattle.fit_rules.specs.Shapes.{Among, Each, Shape, anything, integer, truth, index, pointer, space, region, partition, awaited, Origin, unknown, argument, own_root, own_as, part, World, Is, is_number, is_region}
+use Rattle.fit_rules.specs.Sound.{IsElsewhere, IsOther}
+use Rattle.sound_code.specs.Named.{IsNumbered, IsOfNumber}
 use Rattle.sound_code.specs.Ways.{Way, all_made, by_rules, origin_in, shape_in}
 use Rattle.sound_code.proofs.Grounds.{Ground}
 use Rattle.sound_code.proofs.Told.{ToldForm}
@@ -25,6 +26,13 @@ numbers_of bs = map (λ (b : Bound). b.number) bs
 
 -- ---- among more names
 
+origin_more : (bs : List Bound) (b : Bound) (o : Origin) → IsOfNumber bs o → IsOfNumber (b ∷ bs) o
+origin_more bs b unknown h = tt
+origin_more bs b (argument i) h = tt
+origin_more bs b own_root h = tt
+origin_more bs b (own_as i) h = inr h
+origin_more bs b (part o) h = origin_more bs b o h
+
 pub numbered_more : (bs : List Bound) (b : Bound) (s : Shape) → IsNumbered bs s → IsNumbered (b ∷ bs) s
 numbered_more bs b anything h = tt
 numbered_more bs b (integer w) h = tt
@@ -32,10 +40,7 @@ numbered_more bs b truth h = tt
 numbered_more bs b index h = tt
 numbered_more bs b (pointer n) h = tt
 numbered_more bs b space h = tt
-numbered_more bs b (region sp unknown) h = tt
-numbered_more bs b (region sp (argument i)) h = tt
-numbered_more bs b (region sp own_root) h = tt
-numbered_more bs b (region sp (own_as i)) h = inr h
+numbered_more bs b (region sp o) h = origin_more bs b o h
 numbered_more bs b (partition sp d) h = tt
 numbered_more bs b (awaited s) h = tt
 
@@ -49,13 +54,36 @@ numbered_set bs [] i s h n = h
 numbered_set bs (u ∷ ss) zero s h n = (n, h.1)
 numbered_set bs (u ∷ ss) (suc i) s h n = (h.0, numbered_set bs ss i s h.1 n)
 
+-- what stands in a slot
+pub numbered_at : (bs : List Bound) (ss : List Shape) (i : ℕ) (s : Shape) → Each (IsNumbered bs) ss → slice_get ss i ≡ Some s → IsNumbered bs s
+numbered_at bs [] i s h e = absurd (none-some s e)
+numbered_at bs (u ∷ ss) zero s h e = subst (IsNumbered bs) (same_Some u s e) h.0
+numbered_at bs (u ∷ ss) (suc i) s h e = numbered_at bs ss i s h.1 e
+
 pub simple_numbered : (way : Way) (params : ℕ) (bs : List Bound) (u : StaticType) → IsSimple u → IsNumbered bs (shape_in way params u)
 simple_numbered way params bs _ (simple_integer w) = tt
 simple_numbered way params bs _ simple_truth = tt
 simple_numbered way params bs _ (simple_space c) = tt
 simple_numbered way params bs _ (simple_index c) = tt
 
+-- the number of a region that is bound with it
+pub number_among : (bs : List Bound) (i : ℕ) → IsRegion (bound_as bs i).static_type → Among (numbers_of bs) i
+number_among [] i r = elim r [ ]
+number_among (b ∷ bs) i r = chosen (b.number == i) refl (number_among bs i) r
+  where
+    chosen : (c : Bool) → b.number == i ≡ c → (IsRegion (bound_as bs i).static_type → Among (numbers_of bs) i) → IsRegion (cond c b (bound_as bs i)).static_type →
+        Among (numbers_of (b ∷ bs)) i
+    chosen true e more r = inl (eqb-true b.number i e)
+    chosen false e more r = inr (more r)
+
 -- ---- numbers that no name has
+
+origin_other : (bs : List Bound) (i : ℕ) → ((j : ℕ) → Among (numbers_of bs) j → i ≢ j) → (o : Origin) → IsOfNumber bs o → IsElsewhere i o
+origin_other bs i h unknown n = tt
+origin_other bs i h (argument j) n = tt
+origin_other bs i h own_root n = tt
+origin_other bs i h (own_as j) n = h j n
+origin_other bs i h (part o) n = origin_other bs i h o n
 
 numbered_other : (bs : List Bound) (i : ℕ) → ((j : ℕ) → Among (numbers_of bs) j → i ≢ j) → (s : Shape) → IsNumbered bs s → IsOther i s
 numbered_other bs i h anything n = tt
@@ -64,10 +92,7 @@ numbered_other bs i h truth n = tt
 numbered_other bs i h index n = tt
 numbered_other bs i h (pointer k) n = tt
 numbered_other bs i h space n = tt
-numbered_other bs i h (region sp unknown) n = tt
-numbered_other bs i h (region sp (argument j)) n = tt
-numbered_other bs i h (region sp own_root) n = tt
-numbered_other bs i h (region sp (own_as j)) n = h j n
+numbered_other bs i h (region sp o) n = origin_other bs i h o n
 numbered_other bs i h (partition sp d) n = tt
 numbered_other bs i h (awaited s) n = tt
 

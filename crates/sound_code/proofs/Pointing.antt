@@ -35,7 +35,8 @@ use Rattle.sound_code.proofs.Asked.{Asked, ruled}
 use Rattle.sound_code.proofs.Combining.{both, does, Marked, nothing_done}
 use Rattle.sound_code.proofs.Counting.{counted_numeric, null_fits, standing_counted}
 use Rattle.sound_code.proofs.Placing.{named_at, region_named}
-use Rattle.sound_code.proofs.Scoped.{pointer_named, pointer_there, region_as, scoped_named}
+use Rattle.sound_code.proofs.Scoped.{pointer_aims, pointer_named, region_as, scoped_named}
+use Rattle.sound_code.proofs.Besides.{part_named}
 use Rattle.sound_code.proofs.Through.{allowed_through, may_read_through, may_reduce_through, may_write_through, reads_through, reduces_through, writes_through}
 use Rattle.sound_code.proofs.Told.{Told, ToldForm}
 use Rattle.sound_code.proofs.Wholes.{HasFew}
@@ -116,12 +117,13 @@ module _ (g : Program) (t : TaskCode) (k slots : ℕ) (forms : Forms) (way : Way
   behind_marked d x f us q h told =
       let r = ruled g t k slots forms way w m asked q in
       let u = (bound w x).static_type in
-      let there = pointer_there w.scope.names (bound w x).number u h.pointer (scoped_named w.scope.names w.scope.names x r.scoped h.named) in
+      let there = pointer_aims w.scope.names (bound w x).number u h.pointer (scoped_named w.scope.names w.scope.names x r.scoped h.named) in
+      let part = part_named (by_rules r.task) w.params m.slots w.scope.next w.scope.names x h.numbers r.beside h.named in
       let may = may_read_through w r.task x f h.pointer h.certain h.field (subst (λ v. Told v w.tree w.scope (access_expr x (field_step f no_step))) r.by told).1 in
       reads_through g t k r.task w m r.known f (field_behind w x f) u (bound w x).place (own_slot w u (bound w x).place) us h.pointer
       (named_at (by_rules r.task) w.params m.slots w.scope.names x r.named h.named ∙ ap Some (pointer_named (by_rules r.task) w.params u h.pointer)) h.keeps
       (λ vs. allowed_through w r.task g t m asked.params r.known r.kept r.facts r.named r.scoped u
-      (field_place w.tree (space_in u) f) (own_slot w u (bound w x).place) Read vs h.pointer there h.certain may h.field)
+      (field_place w.tree (space_in u) f) (bound w x).place Read vs h.pointer there part h.certain may h.field)
 
   -- a field that it goes to is assigned, and reduced
   pub set_behind_marked : (x f : Name) (y : Expression) → forms.keeps ≡ true → IsBehind w x f (field_behind w x f) →
@@ -131,13 +133,14 @@ module _ (g : Program) (t : TaskCode) (k slots : ℕ) (forms : Forms) (way : Way
       let r = ruled g t k slots forms way w m asked q in
       let u = (bound w x).static_type in
       let told_here = subst (λ v. ToldForm v w.tree w.scope (assign_form x (field_step f no_step) how.Set y)) r.by told in
-      let there = pointer_there w.scope.names (bound w x).number u h.pointer (scoped_named w.scope.names w.scope.names x r.scoped h.named) in
+      let there = pointer_aims w.scope.names (bound w x).number u h.pointer (scoped_named w.scope.names w.scope.names x r.scoped h.named) in
+      let part = part_named (by_rules r.task) w.params m.slots w.scope.next w.scope.names x h.numbers r.beside h.named in
       let may = may_write_through w r.task x f y h.pointer h.certain h.field told_here.1.form in
       let named = named_at (by_rules r.task) w.params m.slots w.scope.names x r.named h.named ∙ ap Some (pointer_named (by_rules r.task) w.params u h.pointer) in
       both g t k (both g t k (pointer_loaded u (bound w x).place (shape_of (field_behind w x f) ∷ []) h.pointer named) (nothing_done g t k _))
       (writes_through g t k r.task w m r.known f (field_behind w x f) u (own_slot w u (bound w x).place) [] h.pointer h.keeps
       (λ vs. allowed_through w r.task g t m asked.params r.known r.kept r.facts r.named r.scoped u
-      (field_place w.tree (space_in u) f) (own_slot w u (bound w x).place) Write vs h.pointer there h.certain may h.field))
+      (field_place w.tree (space_in u) f) (bound w x).place Write vs h.pointer there part h.certain may h.field))
 
   pub reduce_behind_marked : (x f : Name) (o : Op) (y : Expression) (a : Shape) → forms.keeps ≡ true → Numeric a → IsInteger (field_behind w x f) →
       IsBehind w x f (field_behind w x f) → ToldForm way w.tree w.scope (assign_form x (field_step f no_step) (how.Reduce o) y) →
@@ -146,10 +149,11 @@ module _ (g : Program) (t : TaskCode) (k slots : ℕ) (forms : Forms) (way : Way
       let r = ruled g t k slots forms way w m asked q in
       let u = (bound w x).static_type in
       let told_here = subst (λ v. ToldForm v w.tree w.scope (assign_form x (field_step f no_step) (how.Reduce o) y)) r.by told in
-      let there = pointer_there w.scope.names (bound w x).number u h.pointer (scoped_named w.scope.names w.scope.names x r.scoped h.named) in
+      let there = pointer_aims w.scope.names (bound w x).number u h.pointer (scoped_named w.scope.names w.scope.names x r.scoped h.named) in
+      let part = part_named (by_rules r.task) w.params m.slots w.scope.next w.scope.names x h.numbers r.beside h.named in
       let may = may_reduce_through w r.task x f o y h.pointer h.certain h.field told_here.1.form in
       let named = named_at (by_rules r.task) w.params m.slots w.scope.names x r.named h.named ∙ ap Some (pointer_named (by_rules r.task) w.params u h.pointer) in
       both g t k (both g t k (pointer_loaded u (bound w x).place (a ∷ []) h.pointer named) (nothing_done g t k _))
       (reduces_through g t k r.task w m r.known f (field_behind w x f) u (own_slot w u (bound w x).place) o a [] h.pointer io na h.keeps
       (λ vs. allowed_through w r.task g t m asked.params r.known r.kept r.facts r.named r.scoped u
-      (field_place w.tree (space_in u) f) (own_slot w u (bound w x).place) (Reduce o) vs h.pointer there h.certain may h.field))
+      (field_place w.tree (space_in u) f) (bound w x).place (Reduce o) vs h.pointer there part h.certain may h.field))

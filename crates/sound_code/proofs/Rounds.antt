@@ -8,7 +8,8 @@ use Rattle.fit_rules.specs.Shapes.{Each, Shape}
 use Rattle.fit_rules.specs.Marks.{Fact, Mark}
 use Rattle.fit_laws.proofs.Keeping.{get_other, get_set}
 use Rattle.sound_code.specs.Ways.{Way, shape_in}
-use Rattle.sound_code.specs.Named.{IsNumbered, IsSteady, slot_at, Ready, Narrower}
+use Rattle.sound_code.specs.Named.{HasPartBeside, IsNumbered, IsSteady, slot_at, Ready, Narrower}
+use Rattle.sound_code.proofs.Besides.{parts_behind}
 use Rattle.sound_code.proofs.Combining.{slot_next}
 use Rattle.sound_code.proofs.Numbering.{each_numbered, numbered_set}
 use Rattle.sound_code.proofs.Narrowing.{narrow_itself, narrow_set, named_behind}
@@ -49,10 +50,15 @@ module _ (way : Way) (params : ℕ) (bs : List Bound) (m : Mark) (r : Ready way 
     pub limit_there : slice_get head_mark.slots be ≡ Some B
     limit_there = get_other (slice_set m.slots be B) co be C (λ e. omega (arith, e)) ∙ get_set m.slots be B hi
 
+    -- what stands beside the variable
+    pub domain_there : slice_get round_mark.slots be ≡ Some B
+    domain_there = get_other (slice_set head_mark.slots va V) co be C (λ e. omega (arith, e))
+        ∙ get_other head_mark.slots va be V (λ e. omega (arith, e)) ∙ limit_there
+
     pub round_ready : (b : Bound) → b.place ≡ length bs → shape_in way params b.static_type ≡ V →
         IsNumbered (b ∷ bs) B → IsNumbered (b ∷ bs) C → IsNumbered (b ∷ bs) V → Each (IsSteady params (suc (length bs))) fs →
-        Ready way params (b ∷ bs) round_mark
-    round_ready b eb es nb nc nv counts = record {
+        HasPartBeside way params round_mark.slots bs b.place b.static_type → Ready way params (b ∷ bs) round_mark
+    round_ready b eb es nb nc nv counts beside = record {
       named = (
         eb,
         ap (λ y. slice_get round_mark.slots (slot_at params y)) eb
@@ -60,6 +66,16 @@ module _ (way : Way) (params : ℕ) (bs : List Bound) (m : Mark) (r : Ready way 
             ∙ get_set head_mark.slots va V (omega (arith, hi, long_head)) ∙ ap Some (sym es),
         named_behind way params _ bs co C (named_behind way params _ bs va V
             (named_behind way params _ bs co C (named_behind way params _ bs be B r.named (omega arith)) (omega arith)) (omega arith)) (omega arith),
+      );
+      beside = (
+        beside,
+        parts_behind way params (slice_set head_mark.slots va V) bs co C
+            (named_behind way params head_mark.slots bs va V
+            (named_behind way params _ bs co C (named_behind way params _ bs be B r.named (omega arith)) (omega arith)) (omega arith))
+            (parts_behind way params head_mark.slots bs va V
+            (named_behind way params _ bs co C (named_behind way params _ bs be B r.named (omega arith)) (omega arith))
+            (parts_behind way params (slice_set m.slots be B) bs co C (named_behind way params _ bs be B r.named (omega arith))
+            (parts_behind way params m.slots bs be B r.named r.beside (omega arith)) (omega arith)) (omega arith)) (omega arith),
       );
       free = λ j l h.
           let next = slot_next params (length bs) r.low in

@@ -1,8 +1,8 @@
 -- Names that are bound next are scoped: a root names itself, and the regions that a new pointer's type names are in scope.
-use Rattle.std.proofs.Common.{◌≡◌, Bool, ℕ, suc, List, [], ◌∷◌, ◌++◌, refl, sym, subst, arith, ⊎_elim}
+use Rattle.std.proofs.Common.{◌≡◌, Bool, ℕ, suc, List, [], ◌∷◌, ◌++◌, map, refl, sym, subst, arith, ⊎_elim}
 use Rattle.regent_tree.specs.Accesses.{space_in}
 use Rattle.regent_tree.specs.Scopes.{bound_params, Scope, scope_of}
-use Rattle.regent_tree.specs.StaticTypes.{among_params, Looking, type_said}
+use Rattle.regent_tree.specs.StaticTypes.{among_params, looked_up, Looking, place_of_space, type_said}
 use Rattle.regent_tree.specs.Syntax.{access_expr, at_step, cast_expr, Expression, field_step, Form, no_step, null_expr, TaskTree, Tree}
 use Rattle.regent_tree.specs.Typing.{owned, reaches_of, type_of_element}
 use Rattle.regent_tree.specs.declared.types.NumberTerm.TheVariants as number
@@ -15,10 +15,10 @@ use Rattle.code_rules.specs.Slots.{bound, typed, Where}
 use Rattle.code_laws.specs.Pointers.{a_pointer_type, AllGoBack, AreThere, GoBack, GoesBack, Begins, begins_plain, begins_pointer, BeginsItself, IsPointer, itself_null, itself_plain}
 use Rattle.code_laws.specs.Simple.{a_region_type, IsRegion, IsSimple, simple_index, simple_integer, simple_space, simple_truth}
 use Rattle.code_laws.specs.Steps.{Forms}
-use Rattle.code_laws.specs.Typed.{IsKeepable, IsOwnRegion, IsPointing, IsTyped}
+use Rattle.code_laws.specs.Typed.{element_field, field_behind, IsKeepable, IsOwnRegion, IsPointing, IsTyped}
 use Rattle.code_laws.proofs.Wider.{into_simple, keepable, zero_simple}
 use Rattle.sound_code.specs.Ways.{all_made, by_rules, Way}
-use Rattle.sound_code.proofs.Scoped.{AreScoped, IsScoped, pointer_there, Scoped, scoped_named, scoped_with}
+use Rattle.sound_code.proofs.Scoped.{Aims, aims_there, AreScoped, IsScoped, pointer_aims, Scoped, scoped_named, scoped_with}
 use Rattle.sound_code.proofs.Told.{ToldForm}
 
 pub scoped_bound : (keeps : Bool) (way : Way) (tree : Tree) (s : Scope) (form : Form) (b : Bound) → b.number ≡ s.next → ToldForm way tree s form →
@@ -33,7 +33,7 @@ simple_scoped all n _ (simple_space k) = tt
 simple_scoped all n _ (simple_index k) = tt
 
 pointer_scoped : (all : List Bound) (n : ℕ) (u : StaticType) → IsPointer u → AreThere all (space_in u) (reaches_of u) → IsScoped all n u
-pointer_scoped all n _ (a_pointer_type k sp args rs names) h = h
+pointer_scoped all n _ (a_pointer_type k sp args rs names) h = aims_there all sp rs h
 
 owned_simple : (all : List Bound) (n i : ℕ) (u : StaticType) → IsSimple u → IsScoped all n (owned i u)
 owned_simple all n i _ (simple_integer w) = tt
@@ -41,30 +41,33 @@ owned_simple all n i _ simple_truth = tt
 owned_simple all n i _ (simple_space k) = tt
 owned_simple all n i _ (simple_index k) = tt
 
-owned_pointer : (all : List Bound) (n i : ℕ) (u : StaticType) → IsPointer u → AreThere all (space_in u) (reaches_of u) → IsScoped all n (owned i u)
+owned_pointer : (all : List Bound) (n i : ℕ) (u : StaticType) → IsPointer u → Aims all (space_in u) (reaches_of u) → IsScoped all n (owned i u)
 owned_pointer all n i _ (a_pointer_type k sp args rs names) h = h
 
 -- the regions of an expression that gives a pointer
-module _ (forms : Forms) (w : Where) (all : AreScoped w.scope.names w.scope.names) where
-  of_region : (b : Bound) (u : StaticType) (e : Expression) → IsRegion u → IsOwnRegion w b u →
-      AreThere w.scope.names (space_in (type_of_element w.scope u e)) (reaches_of (type_of_element w.scope u e))
-  of_region b _ e (a_region_type k sp args r) own =
-      subst (AreThere w.scope.names sp) (sym own.is) (own.numbered, own.typed, own.space, tt)
+pub region_there : (w : Where) (b : Bound) (u : StaticType) (e : Expression) → IsRegion u → IsOwnRegion w b u →
+    AreThere w.scope.names (space_in (type_of_element w.scope u e)) (reaches_of (type_of_element w.scope u e))
+region_there w b _ e (a_region_type k sp args r) own =
+    subst (AreThere w.scope.names sp) (sym own.is) (own.numbered, own.typed, own.space, tt)
 
-  pointing_there : (e : Expression) → IsPointer (typed w e) → IsPointing w e → IsTyped forms w e →
-      AreThere w.scope.names (space_in (typed w e)) (reaches_of (typed w e))
-  pointing_there (access_expr n no_step) p h f =
-      pointer_there w.scope.names (bound w n).number (typed w (access_expr n no_step)) p (scoped_named w.scope.names w.scope.names n all f.0)
-  pointing_there (access_expr n (at_step e no_step)) p h f = of_region (bound w n) (bound w n).static_type e f.4 f.5
-  pointing_there (access_expr n (at_step e (field_step g no_step))) p h f = h
-  pointing_there (access_expr n (field_step g no_step)) p h f = h
-  pointing_there (null_expr t) p h f = f.1.1
-  pointing_there (cast_expr t e) p h f = f.1.1
-  pointing_there _ p h f = absurd h
+module _ (forms : Forms) (w : Where) (all : AreScoped w.scope.names w.scope.names) where
+  there : (u : StaticType) → AreThere w.scope.names (space_in u) (reaches_of u) → Aims w.scope.names (space_in u) (reaches_of u)
+  there u h = aims_there w.scope.names (space_in u) (reaches_of u) h
+
+  pointing_aims : (e : Expression) → IsPointer (typed w e) → IsPointing w e → IsTyped forms w e →
+      Aims w.scope.names (space_in (typed w e)) (reaches_of (typed w e))
+  pointing_aims (access_expr n no_step) p h f =
+      pointer_aims w.scope.names (bound w n).number (typed w (access_expr n no_step)) p (scoped_named w.scope.names w.scope.names n all f.0)
+  pointing_aims (access_expr n (at_step e no_step)) p h f = there (type_of_element w.scope (bound w n).static_type e) (region_there w (bound w n) (bound w n).static_type e f.4 f.5)
+  pointing_aims (access_expr n (at_step e (field_step g no_step))) p h f = there (element_field w n e g) h
+  pointing_aims (access_expr n (field_step g no_step)) p h f = there (field_behind w n g) h
+  pointing_aims (null_expr t) p h f = there (typed w (null_expr t)) f.1.1
+  pointing_aims (cast_expr t e) p h f = there (typed w (cast_expr t e)) f.1.1
+  pointing_aims _ p h f = absurd h
 
   pub begun_scoped : (b : Bool) (e : Expression) (n : ℕ) → IsKeepable b w e → IsTyped forms w e → IsScoped w.scope.names n (owned w.scope.next (typed w e))
   begun_scoped b e n k f = ⊎_elim (owned_simple w.scope.names n w.scope.next (typed w e))
-      (λ p. owned_pointer w.scope.names n w.scope.next (typed w e) p.0 (pointing_there e p.0 p.1 f)) (keepable b w e k)
+      (λ p. owned_pointer w.scope.names n w.scope.next (typed w e) p.0 (pointing_aims e p.0 p.1 f)) (keepable b w e k)
 
 pub said_scoped : (bs : List Bound) (n : ℕ) (t u : StaticType) → Begins bs t u → IsScoped bs n u
 said_scoped bs n t u (begins_plain _ _ g) = simple_scoped bs n u (into_simple t u g)
@@ -89,7 +92,7 @@ type_scoped tree look all i (typing.Number number.Int32) h = tt
 type_scoped tree look all i (typing.Number number.Int64) h = tt
 type_scoped tree look all i (typing.Number (number.Index k)) h = tt
 type_scoped tree look all i typing.Truth h = tt
-type_scoped tree look all i (typing.Pointer p) h = h.0
+type_scoped tree look all i (typing.Pointer p) h = aims_there all (place_of_space tree p.space.name) (map (looked_up look) p.regions) h.0
 type_scoped tree look all i (typing.Ispace k) h = tt
 type_scoped tree look all i (typing.Region k u) h = refl
 type_scoped tree look all i (typing.Partition d r c) h = tt

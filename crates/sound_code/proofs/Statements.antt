@@ -1,5 +1,5 @@
 -- The code of statements without blocks has marks.
-use Rattle.std.proofs.Common.{◌≡◌, inl, ℕ, suc, ◌<◌, ◌≤◌, List, [], ◌∷◌, pos, negsuc, cond, Bool, true, false, Some, refl, sym, ap, ◌∙◌, subst, arith}
+use Rattle.std.proofs.Common.{◌≡◌, inl, ℕ, suc, ◌<◌, ◌≤◌, List, [], ◌∷◌, pos, negsuc, cond, Bool, true, false, Some, refl, sym, ap, ◌∙◌, subst, arith, ◌&&◌}
 use Rattle.std.specs.Prelude.{get_or, slice_get, slice_set, length}
 use Rattle.std.proofs.lemmas.List.{length-map, length-set}
 use Rattle.std.proofs.lemmas.Int.{ints}
@@ -38,9 +38,9 @@ use Rattle.marked_code.specs.Marked.{leads_back, leads_making, typed_op, typed_b
 use Rattle.fit_laws.proofs.Keeping.{get_other, get_set, set_mark}
 use Rattle.sound_code.proofs.Counting.{null_fits}
 use Rattle.sound_code.specs.Named.{slot_at, HasSlots, IsNumbered, Ready, Narrower}
-use Rattle.sound_code.specs.WholeTasks.{are_whole_arguments, is_whole_expression}
+use Rattle.sound_code.specs.WholeTasks.{are_whole_arguments, is_whole_expression, are_free}
 use Rattle.sound_code.specs.Ways.{Way, shape_in, shape_of}
-use Rattle.sound_code.proofs.Wholes.{alike_becomes, alike_simple, Asks, Becomes, IsKept, IsWorth, kept_pointer, kept_simple, simple_few, worth_few, worth_named, worth_pointer, worth_simple}
+use Rattle.sound_code.proofs.Wholes.{alike_becomes, alike_simple, Asks, Becomes, IsKept, IsWorth, kept_pointer, kept_simple, simple_few, worth_few, worth_named, worth_pointer, worth_simple, asks_first, asks_second}
 use Rattle.sound_code.proofs.Steady.{steady_below}
 use Rattle.sound_code.proofs.Told.{Told, ToldArgs, ToldCall}
 use Rattle.sound_code.proofs.Asked.{Asked}
@@ -52,6 +52,7 @@ use Rattle.sound_code.proofs.Calling.{alike_second, scalar_numeric}
 use Rattle.sound_code.proofs.Handing.{calls}
 use Rattle.sound_code.proofs.Combining.{bare_number, bare_space, IsBare, Marked, nothing_done, both, does, into, behind_kept, named_kept, keeping, slot_high, slot_next, storing}
 use Rattle.sound_code.proofs.Expressions.{args_marked, converted_marked, expr_marked, named_at, truth_shape}
+use Rattle.sound_code.proofs.Besides.{NamesNoChild, none_beside, parts_behind}
 use Rattle.sound_code.proofs.Narrowing.{AtLeast, fewer_facts, narrow_long, narrow_itself, narrow_set, narrow_into, named_behind}
 
 kept_bare : (u : StaticType) → IsWorth u → IsBare (shape_of u)
@@ -66,13 +67,17 @@ kept_bare _ (worth_pointer k sp args rs few) = bare_number _ (numeric_pointer _)
 -- one more name
 pub named_more : (way : Way) (params : ℕ) (bs : List Bound) (m : Mark) (b : Bound) → Ready way params bs m →
     slot_at params (length bs) < length m.slots → b.place ≡ length bs → IsNumbered (b ∷ bs) (shape_in way params b.static_type) →
-    Ready way params (b ∷ bs) (set_mark m (slot_at params (length bs)) (shape_in way params b.static_type) [])
-named_more way params bs m b r hi e numbered = record {
+    NamesNoChild b.static_type → Ready way params (b ∷ bs) (set_mark m (slot_at params (length bs)) (shape_in way params b.static_type) [])
+named_more way params bs m b r hi e numbered none = record {
   named = (
     e,
     ap (λ y. slice_get (slice_set m.slots (slot_at params (length bs)) (shape_in way params b.static_type)) (slot_at params y)) e
         ∙ get_set m.slots _ _ hi,
     named_behind way params m.slots bs _ _ r.named (omega arith),
+  );
+  beside = (
+    none_beside way params _ bs b.place b.static_type none,
+    parts_behind way params m.slots bs _ _ r.named r.beside (omega arith),
   );
   free = λ j l h.
       let next = slot_next params (length bs) r.low in
@@ -159,11 +164,11 @@ module _ (g : Program) (t : TaskCode) (k slots : ℕ) (have : HasSlots t slots) 
   -- a value of a type is stored as that of a new name of an alike type
   pub bind_marked : (n : Name) (a : Shape) (u : StaticType) (p : Piece) → ((x : World) (v : Value) → Is x a v → Is x (shape_in way w.params u) v) →
       IsNumbered (new_name n u ∷ w.scope.names) (shape_in way w.params u) → Scoped forms.keeps way (new_name n u ∷ w.scope.names) →
-      Cut forms.keeps way w.params m.facts (new_name n u ∷ w.scope.names) →
+      Cut forms.keeps way w.params m.facts (new_name n u ∷ w.scope.names) → NamesNoChild u →
       Marked g t k (stacked m []) p (stacked m (a ∷ [])) → slot_at w.params (length w.scope.names) < length m.slots →
       Followed g t k forms.keeps way w.params (new_name n u ∷ w.scope.names) m
       (p ⨟ op (instr.Store (slot_at w.params (length w.scope.names))) w.line)
-  bind_marked n a u p becomes numbered scoped cut f hi =
+  bind_marked n a u p becomes numbered scoped cut none f hi =
       let r = asked.ready in
       let s = slot_at w.params (length w.scope.names) in
       record {
@@ -171,7 +176,7 @@ module _ (g : Program) (t : TaskCode) (k slots : ℕ) (have : HasSlots t slots) 
         is = both g t k f (storing g t k m s a (shape_in way w.params u) [] w.line (behind_kept way w.params w.scope.names m s r (omega arith))
             (omega (arith, slot_high w.params (length w.scope.names) r.low, asked.params)) hi
             becomes);
-        ready = named_more way w.params w.scope.names m (new_name n u) r hi refl numbered;
+        ready = named_more way w.params w.scope.names m (new_name n u) r hi refl numbered none;
         narrower = narrow_set m.slots m.slots s _ (narrow_itself m.slots) (inl (r.free s (omega arith) hi));
         facts = λ l a. a;
         scoped = scoped;
@@ -250,15 +255,15 @@ module _ (g : Program) (t : TaskCode) (k slots : ℕ) (have : HasSlots t slots) 
   -- a call whose result is left
   pub call_marked : (task : Name) (args : Expressions) → IsCallable forms w task args →
       ArePassed forms w (params_at w.tree w.scope (task_named w.tree task) args) (param_types w.tree (task_named w.tree task)) args →
-      Asks forms.keeps (are_whole_arguments true w (param_types w.tree (task_named w.tree task)) args) → ToldCall way w.tree w.scope task args → ToldArgs way w.tree w.scope args →
+      Asks forms.keeps (are_whole_arguments true w (param_types w.tree (task_named w.tree task)) args && are_free (task_named w.tree task) args) → ToldCall way w.tree w.scope task args → ToldArgs way w.tree w.scope args →
       (pc : ℕ) → Stands t.body pc (form_code w (call_form task args)) →
       Followed g t k forms.keeps way w.params w.scope.names m (form_code w (call_form task args))
   call_marked task args is passed simple called told pc st =
       let u = task_named w.tree task in
       let ts = params_at w.tree w.scope u args in
       unchanged g t k forms.keeps way _ _ m _ asked.ready asked.scoped asked.cut
-      (both g t k (args_marked g t k slots have forms way w m asked 0 ts (param_types w.tree u) args [] passed simple told pc st.0)
-      (both g t k (calls g t k slots forms way w m asked task ts args [] is passed simple called)
+      (both g t k (args_marked g t k slots have forms way w m asked 0 ts (param_types w.tree u) args [] passed (asks_first _ _ _ simple) told pc st.0)
+      (both g t k (calls g t k slots forms way w m asked task ts args [] is passed (asks_first _ _ _ simple) (asks_second _ _ _ simple) called)
       (does g t k _ instr.Drop w.line [] (does_drop _ []))))
 
   pub while_marked : (test : Expression) (p : Piece) → IsTruth (typed w test) → IsTyped forms w test → Asks forms.keeps (is_whole_expression true w test) → Told way w.tree w.scope test → (pc : ℕ) →

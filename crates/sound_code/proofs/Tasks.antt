@@ -28,6 +28,7 @@ use Rattle.marked_code.specs.Marked.{Typed}
 use Rattle.sound_code.specs.Named.{slot_at, AreNamed, HasSlots, Ready}
 use Rattle.sound_code.specs.Ways.{Way, all_made, by_rules, opening_facts, shape_in, shape_of}
 use Rattle.sound_code.specs.WholeTasks.{is_whole_task}
+use Rattle.sound_code.proofs.Besides.{params_beside}
 use Rattle.sound_code.proofs.Cuts.{Cut}
 use Rattle.sound_code.proofs.Scoped.{IsByRules, Scoped}
 use Rattle.sound_code.proofs.Wholes.{Asks}
@@ -40,7 +41,7 @@ use Rattle.sound_code.proofs.Blocks.{block_marked}
 use Rattle.sound_code.proofs.Calling.{opening_steady, types_many}
 use Rattle.marked_code.proofs.Firsts.{begins_with}
 use Rattle.marked_code.specs.Bodies.{MarksAt}
-use Rattle.marked_code.proofs.Placed.{long_marks}
+use Rattle.marked_code.proofs.Long.{long_marks}
 use Rattle.marked_code.proofs.Remarked.{Begins, marks_listed, remarked, typed_remarked}
 use Rattle.marked_code.proofs.Validity.{valid_of}
 
@@ -103,6 +104,7 @@ module _ (tree : Tree) where
         named = subst (λ y. AreNamed way n (map f y ++ replicate blanks anything) (scope_of tree t).names)
             (append-nil (param_types tree t)) (named_open way n (scope_of tree t).names [] (replicate blanks anything)
             (params_from tree t.params 0 t.params) (omega (arith, names_many t)));
+        beside = params_beside way n (opening_mark way tree t).slots tree t.params;
         free = λ s h l. free_behind (map f (param_types tree t)) blanks s
             (omega (arith, h, names_many t, length-map (param_types tree t) f, types_many tree t)) l;
         numbered = opening_numbered way n (scope_of tree t).names (param_types tree t) blanks (params_low tree t);

@@ -15,7 +15,8 @@ use Rattle.regent_tree.specs.Accesses.{space_in}
 use Rattle.regent_tree.specs.Lookup.{has_field, is_bound}
 use Rattle.regent_tree.specs.StaticTypes.{field_place, field_term, Reach, space_at}
 use Rattle.regent_tree.specs.Syntax.{access_expr, assign_form, Expression, field_step, Name, no_step, TaskTree}
-use Rattle.regent_tree.specs.Typing.{has_wild, reaches_of}
+use Rattle.regent_tree.specs.Typing.{has_wild, parent_of, reaches_of}
+use Rattle.regent_tree.specs.declared.facts.Colour.{Colour}
 use Rattle.regent_tree.specs.declared.facts.Term.TheVariants as term
 use Rattle.regent_tree.specs.declared.rights.Access.{Access}
 use Rattle.regent_tree.specs.declared.rights.Access.TheVariants as access
@@ -23,6 +24,7 @@ use Rattle.regent_tree.specs.declared.statement.How.TheVariants as how
 use Rattle.regent_tree.specs.declared.types.Param.{Param}
 use Rattle.regent_tree.specs.declared.typing.Bound.{Bound}
 use Rattle.regent_tree.specs.declared.typing.StaticType.{StaticType}
+use Rattle.regent_tree.specs.declared.typing.StaticType.TheVariants.{Pointer as pointer_type}
 use Rattle.regent_tree.specs.Scopes.{bound_as}
 use Rattle.task_code.specs.declared.code.TaskCode.{TaskCode}
 use Rattle.task_code.specs.declared.instr.Instr.TheVariants as instr
@@ -36,22 +38,22 @@ use Rattle.check_rules.proofs.Untold.{rule_none}
 use Rattle.code_rules.specs.Assignments.{put_code}
 use Rattle.code_rules.specs.Instructions.{field_code, load_code, one}
 use Rattle.code_rules.specs.Pieces.{◌⨟◌, empty}
-use Rattle.code_rules.specs.Slots.{bound, slot, slot_of_reach, slots_of, Where}
-use Rattle.code_laws.specs.Pointers.{a_pointer_type, AreThere, FieldKeeps, IsPointer}
+use Rattle.code_rules.specs.Slots.{beside, bound, own_slot, slot, slot_of_reach, slots_of, Where}
+use Rattle.code_laws.specs.Pointers.{a_pointer_type, AreAims, AreThere, FieldKeeps, IsPointer}
 use Rattle.code_laws.specs.Simple.{an_integer, IsInteger, IsRegion, a_region_type}
 use Rattle.expression_laws.specs.Needs.{mode_of}
 use Rattle.fit_rules.specs.Shapes.{Each, integer, Numeric, numeric_pointer, pointer, Shape}
 use Rattle.fit_rules.specs.Marks.{Mark, stacked}
 use Rattle.fit_rules.specs.Fits.{kind_at, Program, shape_at}
 use Rattle.fit_rules.specs.Sound.{Allowed, does_load, does_read, does_reduce, does_write, settled_number}
-use Rattle.sound_code.specs.Named.{AreNamed}
-use Rattle.sound_code.specs.Ways.{by_rules, shape_of}
+use Rattle.sound_code.specs.Named.{AreNamed, HasPartBeside, IsPartBeside, parent_as}
+use Rattle.sound_code.specs.Ways.{by_rules, origin_in, shape_of}
 use Rattle.sound_code.proofs.Asked.{Known}
 use Rattle.sound_code.proofs.Combining.{both, does, Marked, nothing_done}
 use Rattle.sound_code.proofs.Elements.{field_shape, kind_same}
-use Rattle.sound_code.proofs.Granting.{allowed, term_in}
+use Rattle.sound_code.proofs.Granting.{allowed, allowed_over, allowed_within, named_one, term_in}
 use Rattle.sound_code.proofs.Grounds.{HasFacts, Kept}
-use Rattle.sound_code.proofs.Scoped.{AreScoped, IsScoped, placed_as, region_as, scoped_as}
+use Rattle.sound_code.proofs.Scoped.{Aims, AreScoped, IsScoped, own_place, own_shape, placed_as, region_as, region_found, scoped_as}
 use Rattle.sound_code.proofs.Wanting.{below_any, not_lacking}
 
 own_term : (all : List Bound) (n : ℕ) (t : StaticType) → IsRegion t → IsScoped all n t → term_in t ≡ term.Name n
@@ -129,10 +131,37 @@ module _ (w : Where) (task : TaskTree) where
     allowed_each sp f own a us (Some (term.Child p c) ∷ rs) there certain may l = absurd there
     allowed_each sp f own a us (None ∷ rs) there certain may l = absurd (false≢true (sym certain))
 
-    pub allowed_through : (u : StaticType) (f own : ℕ) (a : Access) (us : List Shape) → IsPointer u → AreThere w.scope.names (space_in u) (reaches_of u) →
-        has_wild (reaches_of u) ≡ false → MayEach (reaches_of u) f a → f < length (space_at w.tree (space_in u)).fields →
-        Each (Allowed g t (stacked m us) (space_in u) f (mode_of a)) (slots_of w own u)
-    allowed_through _ f own a us (a_pointer_type k sp args rs names) there certain may l = allowed_each sp f own a us rs there certain may l
+    -- through the region of a part, which stands beside the pointer
+    allowed_part : (sp f place : ℕ) (a : Access) (us : List Shape) (p : ℕ) (c : Colour) →
+        IsPartBeside (by_rules task) w.params m.slots place sp (bound_as w.scope.names p) (parent_as w.scope.names p) →
+        may_do (rights_declared w.tree task) w.scope.known (wanting f a (term.Child p c)) ≡ true → f < length (space_at w.tree sp).fields →
+        Allowed g t (stacked m us) sp f (mode_of a) (beside w place)
+    allowed_part sp f place a us p c h may l =
+        let names = w.scope.names in
+        let i = parent_of (bound_as names p).static_type in
+        let b = bound_as names i in
+        let own = scoped_as names names i scoped h.is_region in
+        let number = (region_found names i h.is_region).1 in
+        let there = region_as (by_rules task) w.params m.slots names i named h.is_region
+        ∙ ap Some (own_shape task w.params names b.static_type b.number i sp h.is_region own number h.space) in
+        allowed_within g t (stacked m us) sp f (beside w place) (slot w b.place) (mode_of a) (origin_in (by_rules task) w.params (term.Name i))
+        (named_one task w.params i) h.shape there
+        (allowed_over g t w.tree w.params w.scope m ep task known kept facts p c b.place sp f a us h.is_partition
+        (own_place task w.params names b.static_type b.number i b.place h.is_region own number (placed_as w.params names i kept.placed h.is_region)) there l may)
+
+    pub allowed_through : (u : StaticType) (f place : ℕ) (a : Access) (us : List Shape) → IsPointer u → Aims w.scope.names (space_in u) (reaches_of u) →
+        HasPartBeside (by_rules task) w.params m.slots w.scope.names place u → has_wild (reaches_of u) ≡ false → MayEach (reaches_of u) f a →
+        f < length (space_at w.tree (space_in u)).fields → Each (Allowed g t (stacked m us) (space_in u) f (mode_of a)) (slots_of w (own_slot w u place) u)
+    allowed_through _ f place a us (a_pointer_type k sp args rs aims) there part certain may l = by rs aims there part certain may
+      where
+        by : (rs : List Reach) → AreAims rs → Aims w.scope.names sp rs → HasPartBeside (by_rules task) w.params m.slots w.scope.names place (pointer_type k sp args rs) →
+            has_wild rs ≡ false → MayEach rs f a → Each (Allowed g t (stacked m us) sp f (mode_of a)) (map (slot_of_reach w (beside w place)) rs)
+        by [] aims there part certain may = tt
+        by (Some (term.Name i) ∷ rs) aims there part certain may = allowed_each sp f (beside w place) a us (Some (term.Name i) ∷ rs) there certain may l
+        by (Some (term.Child p c) ∷ rs) aims there part certain may =
+            subst (λ qs. Each (Allowed g t (stacked m us) sp f (mode_of a)) (map (slot_of_reach w (beside w place)) (Some (term.Child p c) ∷ qs))) (sym aims)
+            (allowed_part sp f place a us p c part may.0 l, tt)
+        by (None ∷ rs) aims there part certain may = allowed_each sp f (beside w place) a us (None ∷ rs) there certain may l
 
 -- ---- code
 

@@ -1,20 +1,18 @@
 -- What is asked of a task where it may keep pointers: that it takes no part of a partition. So what it reads, keeps, assigns, fills in
 -- and hands over is a number, a truth, an index, an index space or a pointer of few regions.
-use Rattle.std.proofs.Common.{◌≡◌, ◌⊎◌, inl, inr, ℕ, zero, suc, ◌≤◌, Bool, true, false, ◌&&◌, ◌||◌, List, [], ◌∷◌, None, Option, Some, refl, sym, ap, ◌∙◌, subst, arith, ⊎_elim}
-use Rattle.std.specs.Prelude.{length, nat_le}
-use Rattle.std.proofs.lemmas.Bool.{and_parts, false≢true, leb-true, or_cases, not-true}
-use Rattle.std.proofs.lemmas.Option.{none-some, same_Some}
-use Rattle.regent_tree.specs.Syntax.{access_expr, an_expr, at_step, call_expr, cast_expr, chain_expr, convert_expr, Expression, Expressions, field_step, is_null_expr, Name, no_expr, no_step, null_expr, number_expr, prefix_expr, space_expr, truth_expr}
+use Rattle.std.proofs.Common.{◌≡◌, ◌⊎◌, inl, inr, ℕ, ◌≤◌, Bool, true, false, ◌&&◌, ◌||◌, List, None, Option, Some, refl, sym, ap, ◌∙◌, subst, arith, ⊎_elim}
+use Rattle.std.specs.Prelude.{length}
+use Rattle.std.proofs.lemmas.Bool.{and_parts, false≢true, leb-true, or_cases}
+use Rattle.regent_tree.specs.Syntax.{access_expr, at_step, Expression, Name, no_step}
 use Rattle.regent_tree.specs.Typing.{owned, reaches_of}
 use Rattle.regent_tree.specs.declared.types.Kind.{Kind}
 use Rattle.regent_tree.specs.declared.typing.Bound.{Bound}
 use Rattle.regent_tree.specs.declared.typing.StaticType.{StaticType}
 use Rattle.regent_tree.specs.declared.typing.StaticType.TheVariants.{Integer as integer_type, Truth as truth_type, Index as index_type, Pointer as pointer_type, Ispace as ispace_type, Region as region_type, Partition as partition_type, Nothing as no_type, Unknown as unknown_type}
 use Rattle.regent_tree.specs.StaticTypes.{Reach}
-use Rattle.task_code.specs.declared.code.NeedCode.{NeedCode}
 use Rattle.check_rules.specs.types.Sorts.{is_partition, is_region}
-use Rattle.code_rules.specs.Slots.{typed, Where}
-use Rattle.code_laws.specs.Arguments.{IsCutName, IsHanded, IsHandedPart, IsMet, IsMetAt, IsMetPart, name_at, part_at, part_of}
+use Rattle.code_rules.specs.Slots.{bound, typed, Where}
+use Rattle.code_laws.specs.Arguments.{IsHanded, IsHandedPart}
 use Rattle.code_laws.specs.Pointers.{a_pointer_type, Assigned, assigned_plain, assigned_pointer, Begins, begins_plain, begins_pointer, Filled, filled_plain, filled_pointer, fills_alike, fills_index, GoesInto, into_plain, BeginsAs, BeginsWith, IsAssigned, KeepsAs, keeps_index, keeps_plain, keeps_pointer, zero_scalar, IsPointer, IsRead, Passes, passes_plain, passes_pointer, PassesInto}
 use Rattle.code_laws.specs.Simple.{a_partition_type, a_region_type, AreAlike, IsPartition, IsRegion, fits_32, fits_64, fits_truth, IsSimple, number_index, number_integer, simple_index, simple_integer, simple_space, simple_truth, two_integers, two_truths}
 use Rattle.code_laws.specs.Steps.{Taking}
@@ -25,9 +23,8 @@ use Rattle.lane_kernels.specs.declared.numbers.FieldKind.{FieldKind}
 use Rattle.fit_rules.specs.Shapes.{pointer, numeric_index, numeric_integer, numeric_pointer, numeric_truth}
 use Rattle.fit_rules.specs.Sound.{Settled, settled_number, settled_space}
 use Rattle.sound_code.specs.Named.{IsNumbered}
-use Rattle.sound_code.specs.WholeTasks.{are_whole_arguments, is_value, is_whole_expression, names_region}
+use Rattle.sound_code.specs.WholeTasks.{is_value, is_whole_expression, names_region, takes_part}
 use Rattle.sound_code.specs.Ways.{shape_in, shape_of, Way}
-use Rattle.code_rules.specs.Initializers.{names_child}
 
 -- where pointers may be kept, it is so
 abbrev pub Asks : Bool → Bool → Type 0
@@ -58,7 +55,7 @@ value_worth (integer_type w) e = worth_simple _ (simple_integer w)
 value_worth truth_type e = worth_simple _ simple_truth
 value_worth (index_type k) e = worth_simple _ (simple_index k)
 value_worth (ispace_type k) e = worth_simple _ (simple_space k)
-value_worth (pointer_type k sp args rs) e = worth_pointer k sp args rs (leb-true (length rs) 4 (and_parts (nat_le (length rs) 4) _ e).0)
+value_worth (pointer_type k sp args rs) e = worth_pointer k sp args rs (leb-true (length rs) 4 e)
 value_worth (region_type k sp args r) e = absurd (false≢true e)
 value_worth (partition_type d r p) e = absurd (false≢true e)
 value_worth no_type e = absurd (false≢true e)
@@ -153,14 +150,14 @@ pub record Enters (from t p : StaticType) : Type 0 where
   pub other : IsNoRegion from
 
 abbrev pub AsksArgument : Bool → Where → StaticType → Expression → Type 0
-AsksArgument b w p e = Asks b ((is_region p || is_value true p) && (names_region w e || is_whole_expression true w e))
+AsksArgument b w p e = Asks b ((is_region p || is_value true p) && (names_region w e || (takes_part true w e || is_whole_expression true w e)))
 
 entered : (from t p : StaticType) → Passes from t p → (is_region p || is_value true p) ≡ true → Enters from t p
 entered from _ _ (passes_plain _ p g) h =
     let s = into_simple from p g in
     record { goes = becomes_plain from p g; few = simple_few p s; same = refl; worth = worth_simple p s; other = goes_other from p g }
 entered from _ _ (passes_pointer _ k sp args brgs rs qs is same) h =
-    let l = leb-true (length rs) 4 (and_parts (nat_le (length rs) 4) _ h).0 in record {
+    let l = leb-true (length rs) 4 h in record {
       goes = becomes_pointer from k sp brgs qs is;
       few = omega (arith, l, same);
       same = ap pointer same;
@@ -168,20 +165,15 @@ entered from _ _ (passes_pointer _ k sp args brgs rs qs is same) h =
       other = passes_other from _ _ (passes_pointer from k sp args brgs rs qs is same);
     }
 
--- a part isn't asked for, and no partition's name
-no_part : (w : Where) (p : StaticType) (e : Expression) (n : Name) (index : Expression) → e ≡ access_expr n (at_step index no_step) → IsCutName w n →
-    ((is_region p || is_value true p) && (names_region w e || is_whole_expression true w e)) ≡ true → ⊥
-no_part w p e n index is cut h = partition_no_region _ cut.partition
-    (and_parts _ _ (and_parts _ _ (subst (λ c. ((is_region p || is_value true p) && (names_region w c || is_whole_expression true w c)) ≡ true) is h)).1).0
-
+-- no partition is asked for
 no_partition : (p : StaticType) (b : Bool) → IsPartition p → ((is_region p || is_value true p) && b) ≡ true → ⊥
 no_partition _ b (a_partition_type d r q) h = false≢true h
 
--- what is given is a value that enters the parameter, or a region's name
+-- what is given is a value that enters the parameter, a region's name, or a part
 pub given_whole : (b : Bool) (o : Option Taking) (w : Where) (t p : StaticType) (e : Expression) (Typed Part Goal : Type 0) → AsksArgument b w p e →
     (Enters (typed w e) t p → Typed → Goal) → ((y : Taking) → o ≡ Some y → IsHanded (Some y) w t p e → Goal) →
-    (PassesInto b (typed w e) t p × Typed) ⊎ (IsHanded o w t p e ⊎ IsHandedPart b o w t p e Part) → Goal
-given_whole false o w t p e Typed Part Goal asks this that (inl a) =
+    (b ≡ true → IsPartArgument o w t p e Part → Goal) → (PassesInto b (typed w e) t p × Typed) ⊎ (IsHanded o w t p e ⊎ IsHandedPart b o w t p e Part) → Goal
+given_whole false o w t p e Typed Part Goal asks this that part (inl a) =
     let s = alike_simple (typed w e) t a.0.0 in
     this (record {
       goes = alike_becomes (typed w e) t a.0.0;
@@ -190,58 +182,19 @@ given_whole false o w t p e Typed Part Goal asks this that (inl a) =
       worth = subst IsWorth a.0.1 (worth_simple t s);
       other = alike_other (typed w e) t a.0.0;
     }) a.1
-given_whole false None w t p e Typed Part Goal asks this that (inr (inl h)) = absurd h
-given_whole false (Some y) w t p e Typed Part Goal asks this that (inr (inl h)) = that y refl h
-given_whole false o w t p e Typed Part Goal asks this that (inr (inr h)) = absurd h
-given_whole true o w t p e Typed Part Goal asks this that g = given_by true o w t p e Typed Part Goal
+given_whole false None w t p e Typed Part Goal asks this that part (inr (inl h)) = absurd h
+given_whole false (Some y) w t p e Typed Part Goal asks this that part (inr (inl h)) = that y refl h
+given_whole false o w t p e Typed Part Goal asks this that part (inr (inr h)) = absurd h
+given_whole true o w t p e Typed Part Goal asks this that part g = given_by true o w t p e Typed Part Goal
     (λ q. this (entered (typed w e) t p q (and_parts _ _ (asks refl)).0)) that
-    (λ (a : IsPartArgument o w t p e Part). absurd (no_part w p e a.name a.index a.is a.cut (asks refl)))
+    (part refl)
     (λ (a : IsCutArgument o w t p e). absurd (no_partition p _ a.partition (asks refl))) g
 
--- no argument is a part of a name's partition
-pub no_part_at : (w : Where) (ps : List StaticType) (es : Expressions) (k : ℕ) (q : Name × Expression) → are_whole_arguments true w ps es ≡ true →
-    part_at es k ≡ Some q → IsCutName w q.0 → ⊥
-no_part_at w [] no_expr k q h e c = none-some q e
-no_part_at w [] (an_expr a es) k q h e c = false≢true h
-no_part_at w (p ∷ ps) no_expr k q h e c = none-some q e
-no_part_at w (p ∷ ps) (an_expr a es) zero q h e c = none_here a q (and_parts _ _ h).0 e c
-  where
-    none_here : (a : Expression) (q : Name × Expression) → ((is_region p || is_value true p) && (names_region w a || is_whole_expression true w a)) ≡ true →
-        part_of a ≡ Some q → IsCutName w q.0 → ⊥
-    none_here (access_expr n (at_step i no_step)) q h e c = no_part w p (access_expr n (at_step i no_step)) q.0 q.1
-        (ap (λ (x : Name × Expression). access_expr x.0 (at_step x.1 no_step)) (same_Some (n, i) q e)) c h
-    none_here (access_expr n no_step) q h e c = none-some q e
-    none_here (access_expr n (field_step f s)) q h e c = none-some q e
-    none_here (access_expr n (at_step i (field_step f s))) q h e c = none-some q e
-    none_here (access_expr n (at_step i (at_step f s))) q h e c = none-some q e
-    none_here (number_expr z v) q h e c = none-some q e
-    none_here (truth_expr b) q h e c = none-some q e
-    none_here (chain_expr first rest) q h e c = none-some q e
-    none_here (prefix_expr signs i) q h e c = none-some q e
-    none_here (call_expr task args) q h e c = none-some q e
-    none_here (convert_expr t i) q h e c = none-some q e
-    none_here (is_null_expr i) q h e c = none-some q e
-    none_here (null_expr t) q h e c = none-some q e
-    none_here (cast_expr t i) q h e c = none-some q e
-    none_here (space_expr k i) q h e c = none-some q e
-no_part_at w (p ∷ ps) (an_expr a es) (suc k) q h e c = no_part_at w ps es k q (and_parts _ _ h).1 e c
-
--- what is needed is met by a region's name
-pub met_whole : (b : Bool) (o : Option Taking) (w : Where) (ps : List StaticType) (es : Expressions) (n : NeedCode) → Asks b (are_whole_arguments true w ps es) →
-    IsMetAt b o w es n → IsMet o w n (name_at es n.param)
-met_whole false o w ps es n h m = m
-met_whole true o w ps es n h (inl m) = m
-met_whole true o w ps es n h (inr m) = absurd (of_part o (part_at es n.param) refl m)
-  where
-    of_part : (o : Option Taking) (q : Option (Name × Expression)) → part_at es n.param ≡ q → IsMetPart o w n q → ⊥
-    of_part None q e m = m
-    of_part (Some y) None e m = m
-    of_part (Some y) (Some q) e m = no_part_at w ps es n.param q (h refl) e m.0
-
 -- a value that is no region's is no region's name
-pub whole_argument : (b : Bool) (w : Where) (p : StaticType) (e : Expression) → AsksArgument b w p e → IsNoRegion (typed w e) → Asks b (is_whole_expression true w e)
-whole_argument b w p e h other q = ⊎_elim (λ r. absurd (of_region e r other)) (λ s. s)
-    (or_cases (names_region w e) (is_whole_expression true w e) (and_parts _ _ (h q)).1)
+pub whole_argument : (b : Bool) (w : Where) (p : StaticType) (e : Expression) → AsksArgument b w p e → IsNoRegion (typed w e) → (takes_part true w e ≡ true → ⊥) →
+    Asks b (is_whole_expression true w e)
+whole_argument b w p e h other none q = ⊎_elim (λ r. absurd (of_region e r other)) (λ s. ⊎_elim (λ c. absurd (none c)) (λ y. y) (or_cases (takes_part true w e) _ s))
+    (or_cases (names_region w e) _ (and_parts _ _ (h q)).1)
   where
     no_other : (u : StaticType) → is_region u ≡ true → IsNoRegion u → ⊥
     no_other (region_type k sp args r) e h = h
@@ -250,6 +203,16 @@ whole_argument b w p e h other q = ⊎_elim (λ r. absurd (of_region e r other))
     of_region : (e : Expression) → names_region w e ≡ true → IsNoRegion (typed w e) → ⊥
     of_region (access_expr n no_step) r h = no_other _ r h
     of_region _ r h = false≢true r
+
+-- a region of which an element is taken is no partition
+pub region_no_partition : (t : StaticType) → IsRegion t → is_partition t ≡ true → ⊥
+region_no_partition _ (a_region_type k sp args r) e = false≢true e
+
+-- what a part's colour is asked
+pub index_whole : (w : Where) (n : Name) (e : Expression) → (takes_part true w (access_expr n (at_step e no_step)) || is_whole_expression true w (access_expr n (at_step e no_step))) ≡ true →
+    is_whole_expression true w e ≡ true
+index_whole w n e h = ⊎_elim (λ p. (and_parts (is_partition (bound w n).static_type) _ p).1) (λ p. (and_parts (is_region (bound w n).static_type) _ p).1)
+    (or_cases (takes_part true w (access_expr n (at_step e no_step))) _ h)
 
 -- ---- variables
 
@@ -287,30 +250,6 @@ begun_whole true w e v Typed (inr d) h = inr (refl, d)
 pub begun_worth : (b : Bool) (w : Where) (e : Expression) (n : ℕ) → IsKeepable b w e → Asks b (is_value true (owned n (typed w e))) → IsWorth (typed w e)
 begun_worth false w e n k h = worth_simple _ k
 begun_worth true w e n k h = subst IsWorth (owned_same n (typed w e) (kept_of true w e k)) (value_worth (owned n (typed w e)) (h refl))
-
--- and goes into no part
-value_no_child : (t : StaticType) → is_value true t ≡ true → names_child (reaches_of t) ≡ false
-value_no_child (pointer_type k sp args rs) e = not-true (names_child rs) (and_parts (nat_le (length rs) 4) _ e).1
-value_no_child (integer_type w) e = refl
-value_no_child truth_type e = refl
-value_no_child (index_type k) e = refl
-value_no_child (ispace_type k) e = refl
-value_no_child (region_type k sp args r) e = refl
-value_no_child (partition_type d r p) e = refl
-value_no_child no_type e = refl
-value_no_child unknown_type e = refl
-
-pub begun_no_child : (b : Bool) (w : Where) (e : Expression) (n : ℕ) → IsKeepable b w e → Asks b (is_value true (owned n (typed w e))) →
-    names_child (reaches_of (typed w e)) ≡ false
-begun_no_child false w e n k h = simple_no_child (typed w e) k
-  where
-    simple_no_child : (t : StaticType) → IsSimple t → names_child (reaches_of t) ≡ false
-    simple_no_child _ (simple_integer v) = refl
-    simple_no_child _ simple_truth = refl
-    simple_no_child _ (simple_space c) = refl
-    simple_no_child _ (simple_index c) = refl
-begun_no_child true w e n k h =
-    subst (λ u. names_child (reaches_of u) ≡ false) (owned_same n (typed w e) (kept_of true w e k)) (value_no_child (owned n (typed w e)) (h refl))
 
 -- of a written type
 pub said_worth : (b : Bool) (bs : List Bound) (t u : StaticType) → BeginsWith b bs t u → Asks b (is_value true u) → IsWorth u

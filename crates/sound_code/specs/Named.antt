@@ -1,13 +1,20 @@
 -- The shapes of names in scope: what a mark between two statements says.
 use Rattle.std.specs.Prelude.{◌≡◌, ℕ, ◌<◌, ◌≤◌, ◌+◌, ◌*◌, ◌-◌, List, [], ◌∷◌, length, map, Some, slice_get}
+use Rattle.regent_tree.specs.Accesses.{space_in}
+use Rattle.regent_tree.specs.Scopes.{bound_as}
+use Rattle.regent_tree.specs.Typing.{parent_of}
+use Rattle.regent_tree.specs.declared.facts.Term.TheVariants.{Child, Name}
 use Rattle.regent_tree.specs.declared.typing.Bound.{Bound}
+use Rattle.regent_tree.specs.declared.typing.StaticType.{StaticType}
+use Rattle.regent_tree.specs.declared.typing.StaticType.TheVariants.{Pointer as pointer_type}
+use Rattle.code_laws.specs.Simple.{IsPartition, IsRegion}
 use Rattle.task_code.specs.declared.code.Line.{Line}
 use Rattle.task_code.specs.declared.code.TaskCode.{TaskCode}
 use Rattle.machine_terms.specs.Jumps.{fetch}
 use Rattle.code_rules.specs.Used.{slots_used}
-use Rattle.fit_rules.specs.Shapes.{Among, Each, Shape, anything, region, own_as}
+use Rattle.fit_rules.specs.Shapes.{Among, Each, Shape, anything, region, Origin, own_as, part}
 use Rattle.fit_rules.specs.Marks.{apart, counts, Fact, in_slot, lies, Mark, parted}
-use Rattle.sound_code.specs.Ways.{Way, shape_in}
+use Rattle.sound_code.specs.Ways.{Way, origin_in, shape_in}
 
 -- the slot of a place
 abbrev pub slot_at : ℕ → ℕ → ℕ
@@ -31,16 +38,46 @@ pub data IsSteady (params n : ℕ) : Fact → Type 0 where
   is_apart : (i j : ℕ) → i < params → j < params → IsSteady params n (apart (in_slot i) (in_slot j))
   is_parted : (i j : ℕ) → i < n → j < n → IsSteady params n (parted (slot_at params i) (slot_at params j))
 
--- what has a shape is a root that was made under the number of a name, if under any
+-- what has a shape is of a root that was made under the number of a name, if under any
+abbrev pub IsOfNumber : List Bound → Origin → Type 0
+IsOfNumber bs (own_as i) = Among (map (λ (b : Bound). b.number) bs) i
+IsOfNumber bs (part o) = IsOfNumber bs o
+IsOfNumber bs o = Unit {0}
+
 abbrev pub IsNumbered : List Bound → Shape → Type 0
-IsNumbered bs (region sp (own_as i)) = Among (map (λ (b : Bound). b.number) bs) i
+IsNumbered bs (region sp o) = IsOfNumber bs o
 IsNumbered bs s = Unit {0}
+
+-- what a partition's parent is bound to
+abbrev pub parent_as : List Bound → ℕ → Bound
+parent_as bs p = bound_as bs (parent_of (bound_as bs p).static_type)
+
+-- Beside a pointer into a part, which no parameter is, stands a region of its field space, which lies within that of which
+-- the part's partition is.
+pub record IsPartBeside (way : Way) (params : ℕ) (ss : List Shape) (place sp : ℕ) (partition parent : Bound) : Type 0 where
+  pub behind : params ≤ place
+  pub is_partition : IsPartition partition.static_type
+  pub is_region : IsRegion parent.static_type
+  pub space : space_in parent.static_type ≡ sp
+  pub shape : slice_get ss (slot_at params place + 2)
+      ≡ Some (region (Some sp) (part (origin_in way params (Name (parent_of partition.static_type)))))
+
+abbrev pub HasPartBeside : Way → ℕ → List Shape → List Bound → ℕ → StaticType → Type 0
+HasPartBeside way params ss bs place (pointer_type k sp args (Some (Child p c) ∷ rs)) =
+    IsPartBeside way params ss place sp (bound_as bs p) (parent_as bs p)
+HasPartBeside way params ss bs place t = Unit {0}
+
+-- so of each name, by those that were bound before it
+abbrev pub HavePartsBeside : Way → ℕ → List Shape → List Bound → Type 0
+HavePartsBeside way params ss [] = Unit {0}
+HavePartsBeside way params ss (b ∷ bs) = HasPartBeside way params ss bs b.place b.static_type × HavePartsBeside way params ss bs
 
 -- A mark stands between two statements: the names have their shapes, of the slots behind those of the
 -- names nothing is known, roots are those of names, and facts speak of the counters of loops around, of parameters, and
--- of the partitions that names have.
+-- of the partitions that names have. Beside pointers into parts stand the parts.
 pub record Ready (way : Way) (params : ℕ) (bs : List Bound) (m : Mark) : Type 0 where
   pub named : AreNamed way params m.slots bs
+  pub beside : HavePartsBeside way params m.slots bs
   pub free : (s : ℕ) → slot_at params (length bs) ≤ s → s < length m.slots →
       slice_get m.slots s ≡ Some anything
   pub numbered : Each (IsNumbered bs) m.slots

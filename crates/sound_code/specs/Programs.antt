@@ -178,7 +178,7 @@ pub record LocalRunsSoundly (tree : Tree) (inputs : List ℤ) : Type 0 where
 abbrev pub LocalProgramsAreSound : Type 0
 LocalProgramsAreSound = (tree : Tree) (inputs : List ℤ) → IsPlainProgramRun tree inputs → LocalRunsSoundly tree inputs
 
--- one whose tasks hand regions over by name and take no parts of partitions
+-- one whose tasks hand regions over by name, no partitions, and parts only where no constraint speaks of them
 pub record IsWholeProgramRun (tree : Tree) (inputs : List ℤ) : Type 0 where
   pub run : IsLocalProgramRun tree inputs
   pub whole : is_whole_program false tree ≡ true

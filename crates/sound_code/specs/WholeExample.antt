@@ -1,5 +1,5 @@
--- An accepted program whose tasks keep indices and pointers, go over regions and are given pointers, so that the law on
--- tasks that take no parts of partitions is a law of something.
+-- An accepted program whose tasks keep indices and pointers, go over regions and parts of partitions and are given pointers and
+-- parts, so that the law on tasks that hand over no partitions is a law of something.
 use Rattle.std.specs.Prelude.{[], ◌∷◌, pos}
 use Rattle.regent_tree.specs.Syntax.{assert_form, cast_expr, is_null_expr, null_expr, Tree}
 use Rattle.lane_kernels.specs.declared.numbers.Op.TheVariants.{Sum}
@@ -8,7 +8,7 @@ use Rattle.regent_tree.specs.declared.expression.Arithmetic.TheVariants.{Add}
 use Rattle.regent_tree.specs.declared.program.Grant.TheVariants.{Reads, Writes}
 use Rattle.regent_tree.specs.declared.types.Kind.TheVariants.{Int1d}
 use Rattle.regent_tree.specs.declared.types.NumberTerm.TheVariants.{Index, Int64}
-use Rattle.worked_examples.specs.Words.{access, at, calc, call, compare, dot, each, equal, field_space, fields, fill, get, grants, int, item, line, new_region, number, param, pointer, points_into, reduce, ref, region, set, space, space_of, task, var_as, var_from, when}
+use Rattle.worked_examples.specs.Words.{access, at, calc, call, compare, dot, each, equal, field_space, fields, fill, get, grants, int, item, line, new_region, number, param, pointer, points_into, reduce, ref, region, set, space, space_of, task, var, var_as, var_from, when}
 use Rattle.sound_code.specs.Programs.{IsWholeProgramRun, LocalRunsSoundly}
 
 --     fspace f { x : int64, next : int1d }
@@ -17,6 +17,7 @@ use Rattle.sound_code.specs.Programs.{IsWholeProgramRun, LocalRunsSoundly}
 --       p.x = r[p.next].x + 1
 --       for q in r do q.x += 1 end
 --     end
+--     task raise(s : region(ispace(int1d), f)) where reads writes(s.x) do for q in s do q.x += 1 end end
 --     task main(n : int64)
 --       var r = region(ispace(int1d, 3), f)
 --       fill(r.x, n)
@@ -31,6 +32,14 @@ use Rattle.sound_code.specs.Programs.{IsWholeProgramRun, LocalRunsSoundly}
 --       assert(p == r[1])
 --       var halves = partition(equal, r, ispace(int1d, 2))
 --       for c in halves.colors do i = c end
+--       for c in halves.colors do
+--         for q in halves[c] do
+--           var s = q
+--           s.x += 1
+--           q.next = c
+--         end
+--         raise(halves[c])
+--       end
 --     end
 abbrev pub follows_program : Tree
 follows_program =
@@ -41,6 +50,9 @@ follows_program =
     (line 4 (set "p" (dot "x" ∷ []) (calc (access "r" (at (access "p" (dot "next" ∷ [])) ∷ dot "x" ∷ [])) Add (int 1)))
     ∷ line 5 (each "q" (get "r") (line 5 (reduce "q" (dot "x" ∷ []) Sum (int 1)) ∷ []))
     ∷ []))
+    ∷ item 6
+    (task "raise" (param 6 "s" (region (space_of "f" [])) ∷ []) (grants (Reads ∷ Writes ∷ []) (fields "s" ("x" ∷ []) ∷ []) ∷ [])
+    (line 6 (each "q" (get "s") (line 6 (reduce "q" (dot "x" ∷ []) Sum (int 1)) ∷ [])) ∷ []))
     ∷ item 7
     (task "main" (param 7 "n" (number Int64) ∷ []) []
     (line 8 (var_from "r" (new_region (space (int 3)) (space_of "f" [])))
@@ -57,6 +69,14 @@ follows_program =
     ∷ line 18 (assert_form (compare (get "p") Equal (access "r" (at (int 1) ∷ []))))
     ∷ line 19 (var_from "halves" (equal "r" (space (int 2))))
     ∷ line 20 (each "c" (access "halves" (dot "colors" ∷ [])) (line 20 (set "i" [] (get "c")) ∷ []))
+    ∷ line 21 (each "c" (access "halves" (dot "colors" ∷ []))
+    (line 22 (each "q" (access "halves" (at (get "c") ∷ []))
+    (line 23 (var "s" (get "q"))
+    ∷ line 24 (reduce "s" (dot "x" ∷ []) Sum (int 1))
+    ∷ line 25 (set "q" (dot "next" ∷ []) (get "c"))
+    ∷ []))
+    ∷ line 26 (call "raise" (access "halves" (at (get "c") ∷ []) ∷ []))
+    ∷ []))
     ∷ []))
     ∷ []
 

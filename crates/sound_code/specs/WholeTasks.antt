@@ -1,10 +1,15 @@
--- Tasks that take no parts: each name in an expression has a number, a truth, an index, an index space or a pointer, but
+-- Tasks that hand over no partitions: each name in an expression has a number, a truth, an index, an index space or a pointer, but
 -- for regions of which elements are taken, which are handed over, or over which a loop goes, and partitions whose colours
--- are had, or of which others are made.
-use Rattle.std.specs.Prelude.{Bool, true, false, not, List, [], ◌∷◌, ◌&&◌, ◌||◌, length, nat_le, Some, None}
-use Rattle.std.specs.List.{list_all}
-use Rattle.regent_tree.specs.StaticTypes.{task_named}
-use Rattle.regent_tree.specs.Syntax.{cast_expr, is_null_expr, null_expr, a_link, a_statement, access_expr, an_arm, an_expr, Arms, assert_form, assign_form, at_step, both_initializer, by_field_initializer, either_initializer, equal_initializer, image_initializer, preimage_initializer, Block, call_expr, call_form, chain_expr, convert_expr, do_form, else_block, Expression, Expressions, field_step, fill_form, for_in_form, for_to_form, Form, if_form, Links, no_arm, no_else, no_expr, no_link, no_statement, no_step, number_expr, Otherwise, plain_initializer, prefix_expr, print_form, region_initializer, return_form, space_expr, TaskTree, then_statement, Tree, truth_expr, var_form, while_form}
+-- are had, whose parts are handed over or gone through, or of which others are made. A part is handed over for a parameter of
+-- which no constraint speaks.
+use Rattle.std.specs.Prelude.{Option, Bool, true, false, not, List, [], ◌∷◌, ◌&&◌, ◌||◌, length, nat_le, Some, None}
+use Rattle.std.specs.List.{list_all, list_any}
+use Rattle.regent_tree.specs.StaticTypes.{place_in, task_named}
+use Rattle.regent_tree.specs.declared.program.Clause.{Clause}
+use Rattle.regent_tree.specs.declared.program.Clause.TheVariants as clause
+use Rattle.regent_tree.specs.declared.types.Param.{Param}
+use Rattle.code_laws.specs.Arguments.{part_at}
+use Rattle.regent_tree.specs.Syntax.{cast_expr, is_null_expr, null_expr, a_link, a_statement, access_expr, an_arm, an_expr, Arms, assert_form, assign_form, at_step, both_initializer, by_field_initializer, either_initializer, equal_initializer, image_initializer, preimage_initializer, Block, call_expr, call_form, chain_expr, convert_expr, do_form, else_block, Expression, Expressions, field_step, fill_form, for_in_form, for_to_form, Form, if_form, Links, Name, no_arm, no_else, no_expr, no_link, no_statement, no_step, number_expr, Otherwise, plain_initializer, prefix_expr, print_form, region_initializer, return_form, space_expr, TaskTree, then_statement, Tree, truth_expr, var_form, while_form}
 use Rattle.regent_tree.specs.Typing.{param_types, arithmetic_type, taken_from, var_type}
 use Rattle.regent_tree.specs.declared.typing.StaticType.{StaticType}
 use Rattle.regent_tree.specs.declared.typing.StaticType.TheVariants.{Integer as integer_type, Truth as truth_type, Index as index_type, Pointer as pointer_type, Ispace as ispace_type}
@@ -13,16 +18,15 @@ use Rattle.code_rules.specs.Instructions.{tasks_of}
 use Rattle.code_rules.specs.Programs.{place_of}
 use Rattle.code_rules.specs.Slots.{bound, typed, Where}
 use Rattle.code_rules.specs.Statements.{after_arm, after_arms, after_form, looping, on_line}
-use Rattle.code_rules.specs.Initializers.{names_child}
 
--- a number, a truth, an index, an index space, or a pointer; its type names no part and, where that is asked (`few`), at most
--- four regions, which is the limit of a text
+-- a number, a truth, an index, an index space, or a pointer; where that is asked (`few`), its type names at most four regions,
+-- which is the limit of a text
 abbrev pub is_value : Bool → StaticType → Bool
 is_value few (integer_type w) = true
 is_value few truth_type = true
 is_value few (index_type k) = true
 is_value few (ispace_type k) = true
-is_value few (pointer_type k sp args rs) = (not few || nat_le (length rs) 4) && not (names_child rs)
+is_value few (pointer_type k sp args rs) = not few || nat_le (length rs) 4
 is_value few t = false
 
 -- ---- expressions
@@ -31,6 +35,19 @@ is_value few t = false
 abbrev pub names_region : Where → Expression → Bool
 names_region w (access_expr n no_step) = is_region (bound w n).static_type
 names_region w e = false
+
+-- whether a part stands as an argument for a parameter of which a constraint speaks, and whether none does
+abbrev pub is_given : Option (Name × Expression) → Bool
+is_given None = false
+is_given (Some q) = true
+
+abbrev pub binds_part : List Param → Expressions → Clause → Bool
+binds_part ps es (clause.Within a b) = is_given (part_at es (place_in ps a)) || is_given (part_at es (place_in ps b))
+binds_part ps es (clause.Apart a b) = is_given (part_at es (place_in ps a)) || is_given (part_at es (place_in ps b))
+binds_part ps es (clause.Grants grants places) = false
+
+abbrev pub are_free : TaskTree → Expressions → Bool
+are_free t es = not (list_any (binds_part t.params es) t.clauses)
 
 abbrev mutual
   -- each name in it has such a value, but for regions of which elements are taken
@@ -43,7 +60,8 @@ abbrev mutual
   is_whole_expression few w (access_expr n (field_step f no_step)) = true
   is_whole_expression few w (access_expr n (at_step e no_step)) = is_region (bound w n).static_type && is_whole_expression few w e
   is_whole_expression few w (access_expr n (at_step e (field_step f no_step))) = is_whole_expression few w e
-  is_whole_expression few w (call_expr task args) = are_whole_arguments few w (param_types w.tree (task_named w.tree task)) args
+  is_whole_expression few w (call_expr task args) =
+      are_whole_arguments few w (param_types w.tree (task_named w.tree task)) args && are_free (task_named w.tree task) args
   is_whole_expression few w (convert_expr t e) = is_whole_expression few w e
   is_whole_expression few w (space_expr k e) = is_whole_expression few w e
   is_whole_expression few w (is_null_expr e) = is_whole_expression few w e
@@ -55,16 +73,26 @@ abbrev mutual
   are_whole_links few w no_link = true
   are_whole_links few w (a_link o e rest) = is_whole_expression few w e && are_whole_links few w rest
 
-  -- for parameters of these types
+  -- a region's name, a part of a name's partition, or such an expression, for each of parameters of these types
   pub are_whole_arguments : Bool → Where → List StaticType → Expressions → Bool
   are_whole_arguments few w [] no_expr = true
   are_whole_arguments few w (p ∷ ps) (an_expr e es) =
-      ((is_region p || is_value few p) && (names_region w e || is_whole_expression few w e)) && are_whole_arguments few w ps es
+      ((is_region p || is_value few p) && (names_region w e || (takes_part few w e || is_whole_expression few w e)))
+      && are_whole_arguments few w ps es
   are_whole_arguments few w ps es = false
+
+  -- a part of a name's partition
+  pub takes_part : Bool → Where → Expression → Bool
+  takes_part few w (access_expr n (at_step e no_step)) = is_partition (bound w n).static_type && is_whole_expression few w e
+  takes_part few w e = false
 
 abbrev pub are_whole_expressions : Bool → Where → Expressions → Bool
 are_whole_expressions few w no_expr = true
 are_whole_expressions few w (an_expr e es) = is_whole_expression few w e && are_whole_expressions few w es
+
+-- what a loop goes over
+abbrev pub is_whole_domain : Bool → Where → Expression → Bool
+is_whole_domain few w e = names_region w e || (takes_part few w e || is_whole_expression few w e)
 
 -- ---- statements
 
@@ -85,14 +113,15 @@ abbrev mutual
   is_whole_form few w (if_form arms other) = are_whole_arms few w w arms && is_whole_else few (after_arms w arms) other
   is_whole_form few w (while_form test body) = is_whole_expression few w test && is_whole_block few w body
   is_whole_form few w (for_in_form demanded n domain body) =
-      (names_region w domain || is_whole_expression few w domain) && is_whole_block few (looping w n (taken_from (typed w domain))) body
+      is_whole_domain few w domain && is_whole_block few (looping w n (taken_from (typed w domain))) body
   is_whole_form few w (for_to_form demanded n from to body) = is_whole_expression few w from
       && (is_whole_expression few w to && is_whole_block few (looping w n (arithmetic_type (typed w from) (typed w to))) body)
   is_whole_form few w (do_form body) = is_whole_block few w body
   is_whole_form few w (fill_form r fields e) = is_whole_expression few w e
   is_whole_form few w (assert_form e) = is_whole_expression few w e
   is_whole_form few w (print_form alias format args) = are_whole_expressions few w args
-  is_whole_form few w (call_form task args) = are_whole_arguments few w (param_types w.tree (task_named w.tree task)) args
+  is_whole_form few w (call_form task args) =
+      are_whole_arguments few w (param_types w.tree (task_named w.tree task)) args && are_free (task_named w.tree task) args
   is_whole_form few w (assign_form n no_step h e) = is_value few (bound w n).static_type && is_whole_expression few w e
   is_whole_form few w (assign_form n (field_step f no_step) h y) = is_whole_expression few w y
   is_whole_form few w (assign_form n (at_step e (field_step f no_step)) h y) = is_whole_expression few w e && is_whole_expression few w y

@@ -53,9 +53,9 @@ pub fn local_programs_are_sound()
     ensures { LocalProgramsAreSound }
 {}
 
-/// So is the code of each accepted program whose tasks hand regions over by name and take no parts of partitions. Indices and
-/// pointers are kept, handed over and had in fields, through pointers fields are read, written and reduced, loops go over
-/// regions, and partitions are made, also of others, and their colours are gone through.
+/// So is the code of each accepted program whose tasks hand regions over by name, no partitions, and parts of these only for
+/// parameters of which no constraint speaks. Indices and pointers are kept, handed over and had in fields, through pointers fields are read, written and reduced, loops go over
+/// regions and parts of partitions, and partitions are made, also of others, and their colours are gone through.
 #[tactic(auto, using(crate::proofs::Rules::whole_programs_are_sound))]
 pub fn whole_programs_are_sound()
     ensures { WholeProgramsAreSound }
