@@ -26,13 +26,14 @@ use Rattle.sound_code.specs.Named.{HasPartBeside, HasSlots}
 use Rattle.regent_tree.specs.Scopes.{in_scope, past, Scope}
 use Rattle.regent_tree.specs.StaticTypes.{looked_up}
 use Rattle.regent_tree.specs.Typing.{scope_after_arms}
+use Rattle.std.proofs.lemmas.Bool.{false≢true}
 use Rattle.regent_tree.specs.declared.rights.Access.TheVariants as access
 use Rattle.check_rules.specs.types.Parts.{tests_of}
 use Rattle.check_laws.specs.MeantVisits.{meant_in_arms, meant_in_else, meant_within}
 use Rattle.fit_rules.specs.Shapes.{region}
 use Rattle.sound_code.specs.WholeTasks.{is_value, are_whole_arms, is_whole_block, is_whole_else, is_whole_expression, is_whole_form}
 use Rattle.sound_code.specs.Ways.{Way, shape_in, shape_of}
-use Rattle.sound_code.proofs.Wholes.{Asks, asks_first, asks_second, assigned_becomes, begins_becomes, begun_whole, field_few, said_worth, set_worth, worth_few, worth_named, worth_numbered, worth_simple, zero_worth}
+use Rattle.sound_code.proofs.Wholes.{Asks, asks_first, asks_second, assigned_becomes, begins_becomes, behind_kept, element_kept, begun_whole, field_few, said_worth, set_worth, worth_few, worth_named, worth_numbered, worth_simple, zero_worth}
 use Rattle.sound_code.proofs.Scoped.{Scoped}
 use Rattle.sound_code.proofs.ScopedNames.{said_scoped, scoped_bound, simple_scoped, zero_scoped}
 use Rattle.sound_code.proofs.Pointing.{reduce_behind_marked, set_behind_marked}
@@ -330,6 +331,8 @@ module _ (g : Program) (t : TaskCode) (k slots : ℕ) (have : HasSlots t slots) 
         meet_marked g t k slots have forms way w m a x p q told f.0 f.1 (stored g t k slots have forms way w m a _ _ st.1)
     form_marked w m (var_form x None (Some (either_initializer p q))) f whole a told within pc st =
         join_marked g t k slots have forms way w m a x p q told f.0 f.1 (stored g t k slots have forms way w m a _ _ st.1)
+    form_marked w m (assign_form x (field_step l (field_step e rest)) h y) f whole a told within pc st = absurd (false≢true (whole (behind_kept forms w x l e rest h y f)))
+    form_marked w m (assign_form x (at_step i (field_step l (field_step e rest))) h y) f whole a told within pc st = absurd (false≢true (whole (element_kept forms w x i l e rest h y f)))
     form_marked w m _ f whole a told within pc st = absurd f
 
     arms_marked : (own w : Where) (m : Mark) (arms : Arms) (other : Piece) → AreTypedArms forms own w arms → Asks forms.keeps (are_whole_arms true own w arms) → At own m →

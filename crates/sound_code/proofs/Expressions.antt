@@ -248,6 +248,8 @@ module _ (g : Program) (t : TaskCode) (k slots : ℕ) (have : HasSlots t slots) 
         let v = typed w (cast_expr p e) in
         both g t k (expr_marked d e us fine.3 (asks_second _ _ _ whole) (told_cast w.tree w.scope way p e told) pc st.0)
         (cast_marked g t k slots forms way w m asked (typed w e) v us fine.2 fine.1.0 fine.1.1 fine.4 (worth_few v (value_worth v (asks_first _ _ _ whole fine.0))))
+    expr_marked d (access_expr x (field_step _ (field_step _ _))) us fine whole told pc st = absurd (false≢true (whole fine.0))
+    expr_marked d (access_expr x (at_step _ (field_step _ (field_step _ _)))) us fine whole told pc st = absurd (false≢true (whole fine.0))
     expr_marked d _ us fine whole told pc st = absurd fine
 
     pub links_marked : (d : ℕ) (u : StaticType) (ls : Links) (us : List Shape) → AreTypedLinks forms w u ls → Asks forms.keeps (are_whole_links true w ls) →

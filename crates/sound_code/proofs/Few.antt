@@ -32,11 +32,11 @@ use Rattle.code_laws.proofs.Typing.{AreKept, kept_behind, kept_left, kept_right}
 use Rattle.code_laws.proofs.Wider.{any_field, begun, keepable}
 use Rattle.code_laws.specs.Simple.{a_partition_type, a_region_type, an_integer, IsInteger, IsPartition, IsRegion}
 use Rattle.code_laws.specs.Steps.{Forms}
-use Rattle.code_laws.specs.Typed.{IsLooped, AreTypedArms, IsBegun, IsDifference, IsKeepable, IsPointing, IsTyped, IsTypedBlock, IsTypedElse, IsTypedForm}
+use Rattle.code_laws.specs.Typed.{element_field, field_behind, IsLooped, AreTypedArms, IsBegun, IsDifference, IsKeepable, IsPointing, IsTyped, IsTypedBlock, IsTypedElse, IsTypedForm}
 use Rattle.fit_rules.specs.Shapes.{Each}
 use Rattle.sound_code.specs.WholeTasks.{are_free, are_whole_arguments, are_whole_arms, are_whole_expressions, are_whole_links, is_value, is_whole_block, is_whole_domain, is_whole_else, is_whole_expression, is_whole_form, is_whole_program, is_whole_task, names_region, takes_part}
 use Rattle.sound_code.proofs.Truths.{and_map, or_map, or_maps}
-use Rattle.sound_code.proofs.Wholes.{field_few, HasFew, simple_few}
+use Rattle.sound_code.proofs.Wholes.{field_few, further_few, HasFew, simple_few}
 
 -- ---- types
 
@@ -237,6 +237,8 @@ module _ (forms : Forms) where
   pointing_few w few (null_expr t) k p f = written_few w.tree _ t (kept_behind node (parts_of_pointer t) k)
   pointing_few w few (cast_expr t e) k p f =
       written_few w.tree _ t (kept_left (parts_of_pointer t) (parts_of_expression e) (kept_behind node (parts_of_pointer t ++ parts_of_expression e) k))
+  pointing_few w few (access_expr n (at_step e (field_step l (field_step g rest)))) k p f = further_few forms w rest (element_field w n e l) g f.6
+  pointing_few w few (access_expr n (field_step l (field_step g rest))) k p f = further_few forms w rest (field_behind w n l) g f.3
   pointing_few w few _ k p f = absurd p
 
   difference_few : (w : Where) (e : Expression) → IsDifference w e → HasFew (typed w e)
@@ -344,6 +346,7 @@ module _ (forms : Forms) where
         (expr_few w few y (kept_right steps (parts_of_expression y) k)) h
     form_few w few (return_form None) k f h = refl
     form_few w few (return_form (Some e)) k f h = expr_few w few e k h
+    form_few w few (assign_form n _ o y) k f h = absurd (false≢true h)
     form_few w few _ k f h = absurd f
 
     block_few : (w : Where) → FewIn w → (b : Block) → AreKept (parts_of_block b) → IsTypedBlock forms w b → is_whole_block false w b ≡ true → is_whole_block true w b ≡ true

@@ -63,6 +63,9 @@ module _ (forms : Forms) (w : Where) (all : AreScoped w.scope.names w.scope.name
   pointing_aims (access_expr n (field_step g no_step)) p h f = there (field_behind w n g) h
   pointing_aims (null_expr t) p h f = there (typed w (null_expr t)) f.1.1
   pointing_aims (cast_expr t e) p h f = there (typed w (cast_expr t e)) f.1.1
+  pointing_aims (access_expr n (at_step e (field_step f (field_step g rest)))) p h fine =
+      there (typed w (access_expr n (at_step e (field_step f (field_step g rest))))) h
+  pointing_aims (access_expr n (field_step f (field_step g rest))) p h fine = there (typed w (access_expr n (field_step f (field_step g rest)))) h
   pointing_aims _ p h f = absurd h
 
   pub begun_scoped : (b : Bool) (e : Expression) (n : ℕ) → IsKeepable b w e → IsTyped forms w e → IsScoped w.scope.names n (owned w.scope.next (typed w e))

@@ -3,8 +3,10 @@
 use Rattle.std.proofs.Common.{◌≡◌, ◌⊎◌, inl, inr, ℕ, ◌≤◌, Bool, true, false, ◌&&◌, ◌||◌, List, None, Option, Some, refl, sym, ap, ◌∙◌, subst, arith, ⊎_elim}
 use Rattle.std.specs.Prelude.{length}
 use Rattle.std.proofs.lemmas.Bool.{and_parts, false≢true, leb-true, or_cases}
-use Rattle.regent_tree.specs.Syntax.{access_expr, at_step, Expression, Name, no_step}
-use Rattle.regent_tree.specs.Typing.{owned, reaches_of}
+use Rattle.regent_tree.specs.Syntax.{access_expr, assign_form, at_step, Expression, field_step, Name, no_step, Steps}
+use Rattle.regent_tree.specs.Typing.{owned, reaches_of, stepped_type, type_of_field}
+use Rattle.regent_tree.specs.declared.statement.How.{How}
+use Rattle.regent_tree.specs.declared.statement.How.TheVariants as how
 use Rattle.regent_tree.specs.declared.types.Kind.{Kind}
 use Rattle.regent_tree.specs.declared.typing.Bound.{Bound}
 use Rattle.regent_tree.specs.declared.typing.StaticType.{StaticType}
@@ -15,8 +17,8 @@ use Rattle.code_rules.specs.Slots.{bound, typed, Where}
 use Rattle.code_laws.specs.Arguments.{IsHanded, IsHandedPart}
 use Rattle.code_laws.specs.Pointers.{a_pointer_type, Assigned, assigned_plain, assigned_pointer, Begins, begins_plain, begins_pointer, Filled, filled_plain, filled_pointer, fills_alike, fills_index, GoesInto, into_plain, BeginsAs, BeginsWith, IsAssigned, KeepsAs, keeps_index, keeps_plain, keeps_pointer, zero_scalar, IsPointer, IsRead, Passes, passes_plain, passes_pointer, PassesInto}
 use Rattle.code_laws.specs.Simple.{a_partition_type, a_region_type, AreAlike, IsPartition, IsRegion, fits_32, fits_64, fits_truth, IsSimple, number_index, number_integer, simple_index, simple_integer, simple_space, simple_truth, two_integers, two_truths}
-use Rattle.code_laws.specs.Steps.{Taking}
-use Rattle.code_laws.specs.Typed.{IsBegun, IsDifference, IsKeepable}
+use Rattle.code_laws.specs.Steps.{Forms, Taking}
+use Rattle.code_laws.specs.Typed.{AreFurther, IsBegun, IsDifference, IsKeepable, IsTypedForm}
 use Rattle.code_laws.proofs.Arguments.{alike_other, given_by, goes_other, IsCutArgument, IsNoRegion, IsPartArgument, passes_other}
 use Rattle.code_laws.proofs.Wider.{into_simple, keepable, zero_simple}
 use Rattle.lane_kernels.specs.declared.numbers.FieldKind.{FieldKind}
@@ -271,6 +273,24 @@ field_few _ _ _ (keeps_plain _ _ _ fits_64) = omega arith
 field_few _ _ _ (keeps_plain _ _ _ fits_truth) = omega arith
 field_few _ _ _ (keeps_index _ k) = omega arith
 field_few _ _ _ (keeps_pointer k sp args rs names few) = few
+
+-- what the last field keeps of those that stand one behind the other
+pub further_few : (forms : Forms) (w : Where) (rest : Steps) (t : StaticType) (f : Name) → AreFurther forms w t (field_step f rest) →
+    HasFew (stepped_type w.tree w.scope t (field_step f rest))
+further_few forms w no_step t f fine = field_few _ _ _ fine.0.keeps
+further_few forms w (field_step g rest) t f fine = further_few forms w rest (type_of_field w.tree t f) g fine.1
+further_few forms w (at_step e rest) t f fine = absurd fine.1
+
+-- pointers are kept where such a field is assigned
+pub behind_kept : (forms : Forms) (w : Where) (n f g : Name) (rest : Steps) (h : How) (y : Expression) →
+    IsTypedForm forms w (assign_form n (field_step f (field_step g rest)) h y) → forms.keeps ≡ true
+behind_kept forms w n f g rest how.Set y fine = fine.0
+behind_kept forms w n f g rest (how.Reduce o) y fine = fine.0
+
+pub element_kept : (forms : Forms) (w : Where) (n : Name) (i : Expression) (f g : Name) (rest : Steps) (h : How) (y : Expression) →
+    IsTypedForm forms w (assign_form n (at_step i (field_step f (field_step g rest))) h y) → forms.keeps ≡ true
+element_kept forms w n i f g rest how.Set y fine = fine.0
+element_kept forms w n i f g rest (how.Reduce o) y fine = fine.0
 
 -- with what a field is filled
 pub filled_settled : (t u : StaticType) → Filled t u → Settled (shape_of t)
