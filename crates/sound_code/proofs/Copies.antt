@@ -86,6 +86,9 @@ module _ (forms : Forms) (w : Where) where
   pointing_copy (access_expr n (field_step g no_step)) p h f c = absurd (there (field_behind w n g) h c)
   pointing_copy (null_expr t) p h f c = absurd (there (typed w (null_expr t)) f.1.1 c)
   pointing_copy (cast_expr t e) p h f c = absurd (there (typed w (cast_expr t e)) f.1.1 c)
+  pointing_copy (access_expr n (at_step e (field_step a (field_step b rest)))) p h f c =
+      absurd (there (typed w (access_expr n (at_step e (field_step a (field_step b rest))))) h c)
+  pointing_copy (access_expr n (field_step a (field_step b rest))) p h f c = absurd (there (typed w (access_expr n (field_step a (field_step b rest)))) h c)
   pointing_copy _ p h f c = absurd h
 
   begun_copy : (b : Bool) (e : Expression) → IsKeepable b w e → IsTyped forms w e → names_child (reaches_of (typed w e)) ≡ true → IsCopy w e
