@@ -1,9 +1,0 @@
-import "regent"
-
-task main()
-  var x : int64 = 3
-  x = x * 2 + 1
-  regentlib.c.printf("%lld\n", x)
-end
-
-regentlib.start(main)
