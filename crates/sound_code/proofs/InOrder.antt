@@ -70,7 +70,7 @@ module _ (tree : Tree) (g : Program) (code : g.code ≡ code_of tree)
       of None e = absurd (none-some t (ap (option_map (task_code tree)) (sym e) ∙ found))
       of (Some u) e = subst (λ y. IsSound g y k) (same_Some (task_code tree u) t (ap (option_map (task_code tree)) (sym e) ∙ found)) (sound k u e)
 
-  sound_code : IsSoundCode g
+  pub sound_code : IsSoundCode g
   sound_code = record { tasks = each_sound; zeros = all_given }
 
   pub run_keeps_all : (forms : Forms) → BeginsWell forms tree g → RunsKeepAll forms tree g

@@ -41,7 +41,7 @@ use Rattle.sound_code.specs.Ways.{Way, by_rules, opening_facts}
 use Rattle.sound_code.proofs.Accepted.{begins_kept, body_without_breach, stands_in}
 use Rattle.sound_code.proofs.Entries.{named_there}
 use Rattle.sound_code.proofs.Openings.{all, all_marked, all_sound, begins_well, opened}
-use Rattle.sound_code.proofs.InOrder.{never_breaks, run_keeps_all}
+use Rattle.sound_code.proofs.InOrder.{never_breaks, run_keeps_all, sound_code}
 use Rattle.regent_tree.specs.Typing.{result_type}
 use Rattle.code_laws.specs.Programs.{IsGiven}
 use Rattle.fit_rules.specs.Fits.{Program}
@@ -67,6 +67,7 @@ module _ (tree : Tree) (given : (k : ℕ) (t : TaskTree) → slice_get (tasks_of
     program = g;
     code = refl;
     sound = all_sound tree way marks_at;
+    all = sound_code tree g refl given (λ k. refl) (all_sound tree way marks_at);
     segments = λ k t there. never_breaks _ _ _ (all_sound tree way marks_at k t there);
     opens = opened tree way marks (all_marked tree way marks_at);
     begins = well;

@@ -19,7 +19,7 @@ use Rattle.machine_terms.specs.declared.order.Instance.{Instance}
 use Rattle.machine_terms.specs.Contents.{no_contents}
 use Rattle.machine_terms.specs.Jobs.{first_frame}
 use Rattle.machine_terms.specs.Orders.{before_of, begun}
-use Rattle.fit_runs.specs.Runs.{BeginsFitting, Comes}
+use Rattle.fit_runs.specs.Runs.{BeginsFitting, Comes, IsSoundCode}
 use Rattle.code_rules.specs.Instructions.{place_of_task, tasks_of}
 use Rattle.code_rules.specs.Programs.{code_of, task_code}
 use Rattle.code_laws.specs.Handing.{AreTypedBy}
@@ -143,13 +143,14 @@ argument_shapes tree t = map (shape_in (by_rules t) (length t.params)) (param_ty
 abbrev pub AreConstrained : Tree → TaskTree → List Value → Type 0
 AreConstrained tree t args = Each (λ f. Holds f args) (opening_facts (by_rules t) tree t)
 
--- The code of each task is sound and so never breaks. The frame of a task fits when it opens with any values of its
--- parameters' types, regions among them, of which its constraints hold, around any roots, at any depth and with any
--- turns; its run begins well, and in order it keeps all.
+-- The code of each task is sound and so never breaks, and 0 is one of its results. The frame of a task fits when it opens
+-- with any values of its parameters' types, regions among them, of which its constraints hold, around any roots, at any
+-- depth and with any turns; its run begins well, and in order it keeps all.
 pub record TasksKeepRules (tree : Tree) : Type 0 where
   pub program : Program
   pub code : program.code ≡ code_of tree
   pub sound : (k : ℕ) (t : TaskTree) → slice_get (tasks_of tree) k ≡ Some t → IsSound program (task_code tree t) k
+  pub all : IsSoundCode program
   pub segments : (k : ℕ) (t : TaskTree) → slice_get (tasks_of tree) k ≡ Some t → NeverBreaks program (task_code tree t) k
   pub opens : (k : ℕ) (t : TaskTree) → slice_get (tasks_of tree) k ≡ Some t → (x : World) (args : List Value) (turns depth : ℕ) →
       turns < 2 ^ 64 → Are (called x args) (argument_shapes tree t) args → AreConstrained tree t args →
