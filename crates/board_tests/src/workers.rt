@@ -35,7 +35,7 @@ fn task(alloc: Global, instrs: Vec<Instr>) -> Result<TaskCode, AllocError> {
 }
 
 /// A job whose main calls so many tasks that do nothing.
-fn job(alloc: Global, calls: u32) -> Result<Job, AllocError> {
+pub fn job(alloc: Global, calls: u32) -> Result<Job, AllocError> {
     let mut main = Vec::new(alloc);
     for _ in 0..calls {
         main.push(Instr::Call(1, 0))?;

@@ -1,7 +1,7 @@
 -- Tasks that hand over no partitions: each name in an expression has a number, a truth, an index, an index space or a pointer, but
 -- for regions of which elements are taken, which are handed over, or over which a loop goes, and partitions whose colours
 -- are had, whose parts are handed over or gone through, or of which others are made. A part is handed over for a parameter of
--- which no constraint speaks.
+-- which no constraint speaks. No field is taken of what a field goes to, in one step.
 use Rattle.std.specs.Prelude.{Option, Bool, true, false, not, List, [], ◌∷◌, ◌&&◌, ◌||◌, length, nat_le, Some, None}
 use Rattle.std.specs.List.{list_all, list_any}
 use Rattle.regent_tree.specs.StaticTypes.{place_in, task_named}
