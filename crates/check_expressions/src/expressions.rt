@@ -36,8 +36,9 @@ use regent_tree::{
 };
 use static_types::{
     Stop, after_operator, after_sign, copy_type, is_collection, is_ill_typed_operation, is_integer,
-    is_number, is_pointer, number_type, said_pointer,
+    is_number, is_pointer, number_type,
 };
+use written_types::said_pointer;
 
 /// A conversion of what has a type.
 fn converted(to: NumberTerm, t: &StaticType) -> Result<StaticType, Stop>

@@ -9,7 +9,8 @@ ghost use Rattle.check_rules.specs.types.Lookup.{region_has};
 
 use program_tables::{Names, Tables};
 use regent_tree::{Clause, Name, Place, StaticType};
-use static_types::{names_region, region_has};
+use static_types::region_has;
+use written_types::names_region;
 
 fn has_all(tables: &Tables, t: &StaticType, fields: &[Name]) -> bool
     ensures { result ≡ list_all (region_has (tree_of tables.now) t.now) fields.now }

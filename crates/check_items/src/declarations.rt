@@ -28,11 +28,12 @@ use crate::repeats::check_names_within;
 use check_rules::Rule;
 use program_tables::{Names, Tables};
 use regent_tree::{FieldSpace, Item, ItemKind, Param, Task, TypeTerm};
-use static_types::{
-    Stop, bind_written, miscolours_in_type, miscounts_in_type, misfits_in_type,
-    unbound_name_in_type, wrong_region_in_type,
-};
+use static_types::{Stop, bind_written};
 use std::alloc::{AllocError, Global};
+use written_types::{
+    miscolours_in_type, miscounts_in_type, misfits_in_type, unbound_name_in_type,
+    wrong_region_in_type,
+};
 
 /// Whether a type that is declared says one.
 fn check_saying_one(tables: &Tables, names: &Names, term: &TypeTerm) -> Result<(), Stop>

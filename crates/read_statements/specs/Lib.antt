@@ -1,4 +1,2 @@
 pub mod Blocks
-pub mod Mappings
 pub mod Ranges
-pub mod Targets

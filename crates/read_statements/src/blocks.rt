@@ -17,7 +17,7 @@ ghost use Rattle.regent_tree.specs.PlainProgram.{block_in, form_of};
 
 use crate::forms::{arm_of, chosen, comes_statement, ended, last_statement, semicolon, simple};
 use crate::ranges::{Range, comes_loop, demand, ranged, take_range};
-use crate::simple::variable;
+use read_forms::variable;
 use read_terms::{Stop, comes_word, expression, line_of, take_word};
 use regent_grammar::{Terminal, Word};
 use regent_tree::{Arm, Stmt, What};

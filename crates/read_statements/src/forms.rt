@@ -15,7 +15,7 @@ ghost use Rattle.read_terms.specs.Gives.{Gives};
 ghost use Rattle.regent_tree.specs.Plain.{expression_of};
 ghost use Rattle.regent_tree.specs.PlainProgram.{block_in, form_of};
 
-use crate::simple::{
+use read_forms::{
     assertion, assignment, comes_assert, comes_print_by, filling, printing, printing_by, task_call,
 };
 use read_terms::{

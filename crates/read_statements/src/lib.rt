@@ -3,8 +3,6 @@
 
 mod blocks;
 mod forms;
-mod initializers;
 mod ranges;
-mod simple;
 
 pub use blocks::block;

@@ -11,7 +11,6 @@ mod params;
 mod said;
 mod sorts;
 mod stop;
-mod type_rules;
 
 pub use elements::{pointer_into, type_of_element};
 pub use fields::region_has;
@@ -24,15 +23,10 @@ pub use looking::{
 pub use operators::{
     after_operator, after_sign, arithmetic_type, counting_as, is_ill_typed_operation,
 };
-pub use params::{bind_written, misfit_in, mispartition_in, put_in, said_params};
+pub use params::{bind_written, differ_in, misfit_in, mispartition_in, put_in, said_params};
 pub use said::{number_type, type_said, written_pointer};
 pub use sorts::{
     copy_reaches, copy_type, is_collection, is_index, is_integer, is_number, is_partition,
     is_pointer, is_region, is_space, is_truth, is_unknown, is_unstructured, is_value,
 };
 pub use stop::Stop;
-pub use type_rules::{
-    check_type, is_unknown_name, miscolours_in_type, miscounts_in_type, misfits_in_type,
-    names_partition, names_region, names_unknown, said_pointer, unbound_name_in_type,
-    wrong_region_in_type,
-};

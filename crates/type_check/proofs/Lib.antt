@@ -1,10 +1,4 @@
-pub mod ByForm
-pub mod Assigned
-pub mod Varied
 pub mod Blocks
 pub mod Following
-pub mod Differences
-pub mod InitializerForms
-pub mod Alone
 pub mod LoopBlocks
 pub mod Whole

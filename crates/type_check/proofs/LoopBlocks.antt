@@ -27,11 +27,11 @@ use Rattle.static_types.specs.Telling.{IsTold, Tells}
 use Rattle.static_types.specs.declared.stop.Stop.{Stop}
 use Rattle.static_types.specs.declared.stop.Stop.TheVariants as stop
 use Rattle.type_check.specs.Lines.{on_line}
-use Rattle.type_check.specs.Heads.{has_block}
+use Rattle.check_forms.specs.Heads.{has_block}
 use Rattle.type_check.specs.Loops.{first_of_shape, first_of_statement, loops_of, shape_in, visits_of}
-use Rattle.type_check.specs.declared.heads.LoopHead.{LoopHead}
+use Rattle.check_forms.specs.declared.heads.LoopHead.{LoopHead}
 use Rattle.type_check.proofs.Blocks.{err_value, told_here}
-use Rattle.type_check.proofs.ByForm.{call_first}
+use Rattle.check_forms.proofs.ByForm.{call_first}
 
 module _ (tree : Tree) where
   view_behind : (s : Scope) (i : Name) (over : Bool) (b : Block) →

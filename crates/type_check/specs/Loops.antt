@@ -1,10 +1,9 @@
--- Loops: what their heads say, the demands on them, and the shapes that are found in a part of a text.
-use Rattle.std.specs.Prelude.{Bool, List, Option, Some, [], false, flat_map, ◌&&◌, ◌∷◌}
+-- Loops: the demands on them, and the shapes that are found in a part of a text.
+use Rattle.std.specs.Prelude.{Bool, List, Option, Some, [], flat_map, ◌&&◌, ◌∷◌}
 use Rattle.std.specs.Option.{option_or}
 use Rattle.regent_tree.specs.PlainProgram.{form_of}
 use Rattle.regent_tree.specs.Scopes.{Scope}
-use Rattle.regent_tree.specs.Syntax.{Block, Expression, Name, TaskTree, Tree}
-use Rattle.regent_tree.specs.Typing.{taken_from}
+use Rattle.regent_tree.specs.Syntax.{Block, Name, TaskTree, Tree}
 use Rattle.regent_tree.specs.declared.statement.Stmt.{Stmt}
 use Rattle.index_launch.specs.Shapes.{shape}
 use Rattle.index_launch.specs.declared.view.LaunchShape.{LaunchShape}
@@ -16,27 +15,7 @@ use Rattle.check_rules.specs.first.FirstInStatements.{first_of_demand, first_of_
 use Rattle.check_rules.specs.first.Rules.{first_of, rule_if}
 use Rattle.check_rules.specs.launches.Shapes.{interferes, is_no_launch, loop_at}
 use Rattle.check_rules.specs.launches.Views.{loop_view}
-use Rattle.check_rules.specs.scopes.Variables.{counted_type}
 use Rattle.check_rules.specs.scopes.Visits.{Visit, visits_in, visits_in_arms, visits_in_else, visits_within}
-use Rattle.check_rules.specs.types.KnownTypes.{known_type}
-use Rattle.check_rules.specs.types.Sorts.{is_space, may_be}
-use Rattle.type_check.specs.declared.heads.LoopHead.{LoopHead}
-
--- ---- heads
-
-abbrev pub head_over : Tree → Scope → Bool → Expression → LoopHead
-head_over tree s demanded e = record {
-  demanded = demanded;
-  taken = taken_from (known_type tree s e);
-  over_space = may_be is_space (known_type tree s e);
-}
-
-abbrev pub head_between : Tree → Scope → Bool → Expression → Expression → LoopHead
-head_between tree s demanded from to = record {
-  demanded = demanded;
-  taken = counted_type (known_type tree s from) (known_type tree s to);
-  over_space = false;
-}
 
 -- ---- shapes
 

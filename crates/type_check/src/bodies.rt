@@ -17,10 +17,10 @@ ghost use Rattle.check_expressions.specs.Sites.{HoldsDeclared};
 ghost use Rattle.type_check.specs.Loops.{loops_of};
 
 use crate::statements::block;
-use crate::variables::{bind, know};
 use check_expressions::{Declared, Scope, Site, held_by, rights_declared};
 use check_items::Halt;
 use check_rules::LoopShape;
+use check_variables::{bind, know};
 use plain_values::Sequence;
 use program_tables::{Tables, copy_name};
 use regent_tree::{Clause, ItemKind, Known, Name, Param, Task, Term};

@@ -12,20 +12,11 @@ ghost use Rattle.check_items.specs.Halting.{TellsAt};
 ghost use Rattle.type_check.specs.Items.{first_in_items};
 ghost use Rattle.type_check.specs.Refusals.{Refuses};
 
-mod assignments;
-mod beginnings;
 mod bodies;
 mod check_fault;
-mod fields;
-mod forms;
-mod heads;
-mod initializers;
 mod lines;
 mod loops;
-mod named;
-mod partition_initializers;
 mod statements;
-mod variables;
 
 use bodies::check_bodies;
 use check_expressions::Declared;

@@ -11,18 +11,18 @@ ghost use Rattle.check_items.specs.Halting.{TellsAt};
 ghost use Rattle.check_expressions.specs.Seen.{seen};
 ghost use Rattle.check_expressions.specs.Sites.{HoldsDeclared, task_at, tree_at};
 ghost use Rattle.static_types.specs.Telling.{Tells};
-ghost use Rattle.type_check.specs.Heads.{has_block};
+ghost use Rattle.check_forms.specs.Heads.{has_block};
 ghost use Rattle.type_check.specs.Loops.{first_of_shape, first_of_statement, loops_of, shape_in, visits_of};
 
-use crate::assignments::assign;
-use crate::forms::{call_alone, fill, print, return_any};
-use crate::heads::{LoopHead, bounds, domain, test, tests};
 use crate::lines::on_line;
 use crate::loops::{demand, shape_of};
-use crate::variables::variable;
 use check_expressions::{Scope, Site};
+use check_forms::{
+    LoopHead, assign, bounds, call_alone, domain, fill, print, return_any, test, tests,
+};
 use check_items::Halt;
 use check_rules::LoopShape;
+use check_variables::variable;
 use index_launch::LaunchShape;
 use plain_values::Sequence;
 use program_tables::copy_name;

@@ -7,7 +7,7 @@ use Rattle.regent_tree.specs.Syntax.{else_block, no_else}
 use Rattle.regent_tree.specs.declared.statement.What.TheBlock.{back-What-If-1}
 use Rattle.regent_tree.proofs.Rows.{arms_of_vec, block_of_vec, otherwise_of_option}
 use Rattle.static_types.specs.Telling.{Anything}
-use Rattle.type_check.proofs.ByForm.{bounds_first, domain_first, tests_first, while_first}
+use Rattle.check_forms.proofs.ByForm.{bounds_first, domain_first, tests_first, while_first}
 use Rattle.check_rules.specs.first.FirstInStatements.{first_in_arms, first_in_block, told_on}
 use Rattle.check_rules.specs.scopes.Variables.{known_scope_after_arms, known_scope_after_block}
 use Rattle.check_rules.specs.launches.Views.{only_call}

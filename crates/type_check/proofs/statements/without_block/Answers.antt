@@ -4,8 +4,8 @@ use Rattle.regent_tree.specs.Plain.{expression_of, expressions_in, initializer_o
 use Rattle.check_expressions.specs.Seen.{seen}
 use Rattle.check_expressions.specs.Sites.{task_at, tree_at}
 use Rattle.type_check.proofs.Blocks.{found_by, told_by}
-use Rattle.type_check.proofs.ByForm.{call_first, fill_first, print_first}
-use Rattle.type_check.proofs.Varied.{var_first}
+use Rattle.check_forms.proofs.ByForm.{call_first, fill_first, print_first}
+use Rattle.check_variables.proofs.Varied.{var_first}
 use Rattle.type_check.proofs.statements.without_block.Goals as goal
 
 pub returns-in-Var : goal.returns-in-Var

@@ -1,0 +1,4 @@
+pub mod Varied
+pub mod Differences
+pub mod InitializerForms
+pub mod Alone
