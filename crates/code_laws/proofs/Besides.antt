@@ -15,7 +15,7 @@ use Rattle.regent_tree.specs.declared.typing.StaticType.{StaticType}
 use Rattle.regent_tree.specs.declared.typing.StaticType.TheVariants.{Integer as integer_type, Truth as truth_type, Index as index_type, Pointer as pointer_type, Ispace as ispace_type, Region as region_type, Partition as partition_type, Nothing as no_type, Unknown as unknown_type}
 use Rattle.machine_terms.specs.declared.order.Contents.{Contents}
 use Rattle.machine_terms.specs.declared.value.Value.{Value as MachineValue}
-use Rattle.code_laws.specs.Pointers.{AreThere, GoBack, GoesBack, IsWritten}
+use Rattle.code_laws.specs.Pointers.{AreThere, GoToParams, GoesToParams, IsWritten}
 use Rattle.code_laws.specs.Simple.{IsPartition, IsRegion, IsSimple, a_partition_type, a_region_type, simple_index, simple_integer, simple_space, simple_truth}
 use Rattle.code_laws.specs.Standing.{AreBeside, AreOf, GoesToPart, IsBeside, IsOf, machine_value, nothing}
 use Rattle.code_laws.proofs.Pointing.{IsPlain}
@@ -47,16 +47,16 @@ there_no_part bs sp t there p c e = subst (AreThere bs sp) e there
 pub written_no_part : (bs : List Bound) (t : StaticType) → IsWritten bs t → HasNoPart t
 written_no_part bs t wr p c e = there_no_part bs _ t wr.1 p c e
 
-back_no_part : (all : List Bound) (own : ℕ) (t : StaticType) → GoesBack all own t → HasNoPart t
-back_no_part all own (pointer_type k sp args rs) back p c e = subst (AreThere all sp) e back.0
-back_no_part all own (integer_type w) back p c e = absurd cc
-back_no_part all own truth_type back p c e = absurd cc
-back_no_part all own (index_type k) back p c e = absurd cc
-back_no_part all own (ispace_type k) back p c e = absurd cc
-back_no_part all own (region_type k sp args r) back p c e = absurd cc
-back_no_part all own (partition_type d r q) back p c e = absurd cc
-back_no_part all own no_type back p c e = absurd cc
-back_no_part all own unknown_type back p c e = absurd cc
+param_no_part : (all : List Bound) (t : StaticType) → GoesToParams all t → HasNoPart t
+param_no_part all (pointer_type k sp args rs) goals p c e = subst (AreThere all sp) e goals
+param_no_part all (integer_type w) goals p c e = absurd cc
+param_no_part all truth_type goals p c e = absurd cc
+param_no_part all (index_type k) goals p c e = absurd cc
+param_no_part all (ispace_type k) goals p c e = absurd cc
+param_no_part all (region_type k sp args r) goals p c e = absurd cc
+param_no_part all (partition_type d r q) goals p c e = absurd cc
+param_no_part all no_type goals p c e = absurd cc
+param_no_part all unknown_type goals p c e = absurd cc
 
 -- a value that is no pointer goes nowhere
 plain_nowhere : (t : StaticType) (v : Value) (q : Region) → IsPlain v → GoesToPart t v q → ⊥
@@ -86,12 +86,12 @@ pub none_beside : (at : ℕ → MachineValue) (c : Contents) (params roots p : �
 none_beside at c params roots p t v none q goes = absurd (none goes.partition goes.colour goes.into)
 
 -- so for parameters
-pub back_beside : (at : ℕ → MachineValue) (c : Contents) (params roots : ℕ) (all bs : List Bound) (names : List Value) → GoBack all bs →
+pub params_beside : (at : ℕ → MachineValue) (c : Contents) (params roots : ℕ) (all bs : List Bound) (names : List Value) → GoToParams all bs →
     AreBeside at c params roots bs names
-back_beside at c params roots all [] names back = tt
-back_beside at c params roots all (b ∷ bs) names back = (
-  none_beside at c params roots b.place b.static_type (get_or names b.place nothing) (back_no_part all b.number b.static_type back.0),
-  back_beside at c params roots all bs names back.1,
+params_beside at c params roots all [] names goals = tt
+params_beside at c params roots all (b ∷ bs) names goals = (
+  none_beside at c params roots b.place b.static_type (get_or names b.place nothing) (param_no_part all b.static_type goals.0),
+  params_beside at c params roots all bs names goals.1,
 )
 
 -- ---- other slots, roots and values

@@ -33,21 +33,23 @@ use Rattle.memory_laws.specs.Touches.{Covers}
 use Rattle.fact_laws.specs.Regions.{LiesWithin}
 use Rattle.code_rules.specs.Programs.{task_code}
 use Rattle.code_rules.specs.Slots.{Where, typed}
-use Rattle.code_laws.specs.Arguments.{AreMet, AreOneColour, AreParted, IsPartBelow, IsCutName, IsMet, IsMetAt, IsMetPart, IsPart, IsParted, IsPartedAt, name_at, one_name, one_number, parent_bound, part_at}
+use Rattle.code_laws.specs.Arguments.{AreMet, AreOneColour, AreParted, BeganWithin, IsPartBelow, IsCutName, IsMet, IsMetAt, IsMetPart, IsParted, LiesBelow, IsPartedAt, name_at, one_name, one_number, parent_bound, part_at}
 use Rattle.code_laws.specs.Pointers.{Passes, passes_plain, passes_pointer}
 use Rattle.code_laws.specs.Simple.{AreRegions, IsPartition, IsRegion, a_partition_type, term_in, two_regions}
 use Rattle.code_laws.specs.Standing.{Agrees, AreTaken, Aside, IsInside, IsOf, IsTaken, LiesIn, SlotsFit, Takes, machine_value, nothing, of_pointer, takes_partition, takes_pointer, takes_region, takes_value, where_of}
 use Rattle.code_laws.specs.Steps.{Setting, Taking}
-use Rattle.code_laws.specs.Taking.{AreParts, IsHad, IsHadBy, MayDo, given_region, pairs_in, pairs_taken, IsSubregion}
+use Rattle.code_laws.specs.Taking.{AreParts, MayDo, given_region, pairs_in, IsSubregion}
 use Rattle.code_laws.specs.Typed.{IsCallable}
 use Rattle.code_laws.proofs.Arguments.{first_region, part_space}
+use Rattle.code_laws.proofs.Began.{began_lies, lies_below, part_given}
 use Rattle.code_laws.proofs.CallCuts.{divided_at, partition_inside, partition_there}
 use Rattle.code_laws.proofs.CallValues.{by_name, by_part, value_at}
 use Rattle.code_laws.proofs.Calling.{given_number}
 use Rattle.code_laws.proofs.Handing.{AreGivenBy, IsGivenBy}
 use Rattle.code_laws.proofs.Parts.{colour_seen, cut_of, parent_inside, part_at_colour, part_lies_in, part_within, point_of}
-use Rattle.code_laws.proofs.Reaching.{a_region_there, field_there, kept_here, part_lies, region_covered, region_had, region_lies_in}
+use Rattle.code_laws.proofs.Reaching.{a_region_there, field_there, kept_here, region_covered, region_had, region_lies_in}
 use Rattle.code_laws.proofs.Requiring.{covered_within, requirements_there}
+use Rattle.code_laws.proofs.Under.{under_named, under_numbered}
 use Rattle.code_laws.proofs.Values.{named}
 use Rattle.code_laws.proofs.Wider.{into_simple}
 
@@ -179,24 +181,6 @@ module _ (x : Setting) (params slots : ℕ) (fit : SlotsFit x slots) (aside : As
 
   -- ---- constraints
 
-  abbrev number_in : Term → ℕ
-  number_in (term.Name i) = i
-  number_in (term.Child p c) = 0
-
-  -- what a parameter's name stands for is its argument
-  given_as : (y : Taking) (i : ℕ) (q : Region) → i < y.params → IsHadBy (Some y) x (term.Name i) q → given_region x.args i ≡ q
-  given_as y i q low (inl own) = absurd (omega (arith, low, own.1))
-  given_as y i q low (inr g) = ap (given_region x.args) (ap number_in g.named) ∙ g.is
-
-  pub part_given : (y : Taking) (r u : Term) (q p : Region) → x.forms.takes ≡ Some y → IsPart y r u → IsHad x r q → IsHad x u p →
-      AreParts x.args (pairs_taken x.forms.takes) → IsSubregion q p
-  part_given y (term.Name i) (term.Name j) q p e is had there parts =
-      subst (λ a. IsSubregion a p) (given_as y i q is.0 (subst (λ o. IsHadBy o x (term.Name i) q) e had))
-      (subst (IsSubregion (given_region x.args i)) (given_as y j p is.1 (subst (λ o. IsHadBy o x (term.Name j) p) e there))
-      (part_lies y x.args i j (subst (λ o. AreParts x.args (pairs_taken o)) e parts) is.2))
-  part_given y (term.Name i) (term.Child _ _) q p e is had there parts = absurd is
-  part_given y (term.Child _ _) u q p e is had there parts = absurd is
-
   parted_lies : (h : Here) (s : State) (i : Instance) (ps : List StaticType) (es : Expressions) (vs : List Value) (y : Taking) (j k : ℕ) (o u : Option Name) →
       x.forms.takes ≡ Some y → name_at es j ≡ o → name_at es k ≡ u → IsParted y (where_of params h) o u → AreGiven h ps es vs s.names →
       Agrees x params slots aside h s i → IsSubregion (given_region vs j) (given_region vs k)
@@ -210,8 +194,13 @@ module _ (x : Setting) (params slots : ℕ) (fit : SlotsFit x slots) (aside : As
       (⊎_elim
       (λ same. subst (IsSubregion b.region)
       (ap region_of (sym b.value ∙ ap (λ n. get_or s.names (bound_to h.scope.names n).place nothing) same ∙ c.value)) (refl, λ root point in_it. in_it))
-      (λ part. part_given y (term_in (bound_to h.scope.names m).static_type) (term_in (bound_to h.scope.names n).static_type) b.region c.region e
-      part b.had c.had g.framed.parts) is.4))
+      (⊎_elim
+      (λ part. part_given x params slots fit aside y (term_in (bound_to h.scope.names m).static_type) (term_in (bound_to h.scope.names n).static_type) b.region c.region e
+      part b.had c.had g.framed.parts)
+      (λ (began : BeganWithin y (where_of params h) (term_in (bound_to h.scope.names m).static_type) (bound_to h.scope.names n)).
+      began_lies x params slots fit aside h s i y (bound_to h.scope.names m).static_type (get_or s.names (bound_to h.scope.names m).place nothing) (bound_to h.scope.names n)
+      b.region c.region e is.2 b.value c.value c.had
+      (under_named x.forms.takes h.scope.next h.scope.names s.names m began.numbers g.under is.0) began g)) is.4))
 
   -- a part lies within what its whole lies within, and within the part of the same colour
   within_whole : (parent : Region) (q : Partition) (c : ℕ) → q.root ≡ parent.root → ArePartsOf parent.points q.sets → c < length q.sets →
@@ -237,11 +226,10 @@ module _ (x : Setting) (params slots : ℕ) (fit : SlotsFit x slots) (aside : As
       let d = cut_of x params slots fit aside h s i p.0 c.partition is.0 c.has_it g in
       let outer = by_name x params slots fit aside h s i ps es vs k n there is.1.named is.1.region a g in
       let whole : IsSubregion d.parent outer.region =
-      ⊎_elim
-      (λ same. subst (IsSubregion d.parent)
-      (ap region_of (sym d.is.value ∙ ap (λ m. get_or s.names m nothing) same ∙ outer.value)) (refl, λ root point in_it. in_it))
-      (λ part. part_given y (term_in t) (term_in (bound_to h.scope.names n).static_type) d.parent outer.region e part
-      (region_had x s.store t d.parent d.is.region (parent_inside x params slots fit aside h s i r c.partition d g)) outer.had g.framed.parts) is.2 in
+      lies_below x params slots fit aside h s i (parent_bound (where_of params h) p.0) (bound_to h.scope.names n) d.parent outer.region d.is.value outer.value d.is.region
+      (region_had x s.store t d.parent d.is.region (parent_inside x params slots fit aside h s i r c.partition d g)) outer.had
+      (under_numbered x.forms.takes h.scope.next h.scope.names s.names r is.0.numbers g.under d.is.region)
+      (subst (λ o. LiesBelow o (where_of params h) (parent_bound (where_of params h) p.0) (bound_to h.scope.names n)) (sym e) is.2) g in
       subst (λ q. IsSubregion q (given_region vs k))
       (sym (ap region_of (get_or_from_slice_get vs j b.value (a_truth false) b.at ∙ c.is)))
       (subst (IsSubregion (part_at_colour c.partition c.colour)) (sym outer.is)
@@ -310,7 +298,7 @@ module _ (x : Setting) (params slots : ℕ) (fit : SlotsFit x slots) (aside : As
       (parted_at x.forms.keeps y w es (pairs_in (scope_of h.tree (task_named h.tree task)).known) p
       (subst (λ o. AreParted x.forms.keeps o w es (pairs_in (scope_of h.tree (task_named h.tree task)).known)) e fine.2)
       (Has-from_Contains (pairs_in (scope_of h.tree (task_named h.tree task)).known) p k)) a g in record {
-        takes = record { there = fine.0; taken = taken_by h s i ps es vs a g; parts = parts; back = fine.3; divided = divided_at x params slots fit aside h s i ps es vs a g 0 ps es vs (λ j. ap (name_at es) (omega arith)) a fine.4; kept = kept_here x params slots aside h s i g; needs = there.0; required = there.1 };
+        takes = record { there = fine.0; taken = taken_by h s i ps es vs a g; parts = parts; goals = fine.3; divided = divided_at x params slots fit aside h s i ps es vs a g 0 ps es vs (λ j. ap (name_at es) (omega arith)) a fine.4; kept = kept_here x params slots aside h s i g; needs = there.0; required = there.1 };
         within = covered_within x.code c args ns there.0 i.needs there.1 (λ root field point m k.
             let n = k.need in
             let o = on n k.among in

@@ -185,6 +185,7 @@ module _ (x : Setting) (params slots : ℕ) (fit : SlotsFit x slots) (aside : As
         inside_store = all_inside x s.store (take (length s.store) after) h.scope.names s.names same g.typed g.inside_store;
         pointed = g.pointed;
         steady = g.steady;
+        under = g.under;
         besides = beside_roots (λ p. get_or i.frame.slots (beside (where_of params h) p) blank) i.contents (closed own c) params (length s.store)
             (length (take (length s.store) after)) h.scope.names s.names g.typed
             (λ q low. (

@@ -36,7 +36,7 @@ use Rattle.code_laws.proofs.Good.{Gives, Good, pushes, valued}
 use Rattle.code_laws.proofs.Operations.{compute_runs, converted_runs, wraps_run}
 use Rattle.code_laws.proofs.Runs.{ends_by, leads_none}
 
-point_fits : (n : ℕ) → n < 2 ^ 32 → FitsWidth W64 (pos n)
+pub point_fits : (n : ℕ) → n < 2 ^ 32 → FitsWidth W64 (pos n)
 point_fits n l = omega (arith, ints, l)
 
 module _ (x : Setting) (params slots : ℕ) (fit : SlotsFit x slots) (aside : Aside) where

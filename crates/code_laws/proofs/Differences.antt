@@ -1,12 +1,11 @@
--- A variable that begins with a partition of one instruction, or with the difference of two partitions.
+-- A variable that begins with the difference of two partitions.
 use Rattle.std.proofs.Common.{◌≡◌, ℕ, suc, ◌≤◌, [], None, Some, refl, sym, ap, subst}
 use Rattle.std.specs.Prelude.{length}
 use Rattle.regent_tree.specs.Evaluation.{value}
 use Rattle.regent_tree.specs.Execution.{after_statement, bind, exec}
-use Rattle.regent_tree.specs.Initializers.{initial_value}
 use Rattle.regent_tree.specs.Running.{Here, State}
 use Rattle.regent_tree.specs.Scopes.{bound_to}
-use Rattle.regent_tree.specs.Syntax.{Expression, Initializer, Name, a_link, access_expr, chain_expr, no_link, no_step, plain_initializer, var_form}
+use Rattle.regent_tree.specs.Syntax.{Expression, Name, a_link, access_expr, chain_expr, no_link, no_step, plain_initializer, var_form}
 use Rattle.regent_tree.specs.Typing.{is_disjoint, operated, owned, parent_of, var_type}
 use Rattle.regent_tree.specs.declared.expression.Arithmetic.TheVariants.{Subtract}
 use Rattle.regent_tree.specs.declared.expression.Operator.TheVariants.{Compute}
@@ -20,8 +19,8 @@ use Rattle.code_rules.specs.Pieces.{op, past}
 use Rattle.code_rules.specs.Slots.{Where, slot, slot_bound, slot_named}
 use Rattle.code_rules.specs.Statements.{form_code}
 use Rattle.code_laws.specs.Pointers.{IsPointed}
-use Rattle.code_laws.specs.Simple.{IsPartition, a_partition_type}
-use Rattle.code_laws.specs.Standing.{Agrees, Aside, Comes, Does, IsInside, IsOf, SlotsFit, Stands, where_of}
+use Rattle.code_laws.specs.Simple.{IsPartition, IsRegion, a_partition_type}
+use Rattle.code_laws.specs.Standing.{Agrees, Aside, Does, IsInside, IsOf, SlotsFit, Stands, where_of}
 use Rattle.code_laws.specs.Steps.{Setting, placed}
 use Rattle.code_laws.specs.Typed.{CountsDown, IsDifference}
 use Rattle.code_laws.proofs.Cuts.{GoodCut}
@@ -31,7 +30,8 @@ use Rattle.code_laws.proofs.PairCuts.{minus_runs}
 use Rattle.code_laws.proofs.Rows.{does_said}
 use Rattle.code_laws.proofs.Runs.{then}
 use Rattle.code_laws.proofs.Variables.{binds}
-use Rattle.code_laws.proofs.Besides.{HasNoPart, no_part_goes}
+use Rattle.code_laws.proofs.Besides.{HasNoPart, no_part_goes, partition_no_part}
+use Rattle.code_laws.proofs.Under.{partition_not_region, type_under}
 
 -- the code of a difference, and its type, by that of the first
 difference_code : (w : Where) (p q : Name) (own : ℕ) (t u : StaticType) → IsPartition t →
@@ -44,19 +44,6 @@ difference_type own _ u (a_partition_type d r k) = refl
 
 module _ (x : Setting) (params slots : ℕ) (fit : SlotsFit x slots) (counts : CountsDown) where
   -- one instruction makes the partition, which the name is bound to
-  pub cut_begins : (aside : Aside) (h : Here) (n : Name) (start : Initializer) (s : State) (pc : ℕ) (i : Instance) → params ≤ length h.scope.names →
-      HasNoPart (var_type h.tree h.scope None (Some start)) →
-      Comes x (placed pc [] i) (valued (suc pc) []) (GoodCut x params slots fit aside h (var_type h.tree h.scope None (Some start)))
-      (initial_value h None (var_type h.tree h.scope None (Some start)) (Some start) s) →
-      Stands x.body (suc pc) (op (instr.Store (slot (where_of params h) (new_place (where_of params h)))) h.line) →
-      Does x params slots aside (placed pc [] i) (suc (suc pc)) (after_statement h (var_form n None (Some start))) (exec h (var_form n None (Some start)) s)
-  cut_begins aside h n start s pc i low none comes f =
-      let t = var_type h.tree h.scope None (Some start) in
-      then x (does_said x params slots fit counts aside (suc (suc pc)) (after_statement h (var_form n None (Some start)))) (valued (suc pc) [])
-      (GoodCut x params slots fit aside h t) _ (initial_value h None t (Some start) s) (λ v. bind v) comes
-      (λ v s1 j k. binds x params slots fit counts aside h n None (Some start) v s1 (suc pc) j low k.0 k.1 k.2
-      (no_part_goes _ j.contents (length s1.store) t v none) k.3 f)
-
   pub difference_begins : (aside : Aside) (h : Here) (n : Name) (e : Expression) (s : State) (pc : ℕ) (i : Instance) → params ≤ length h.scope.names →
       IsDifference (where_of params h) e → Agrees x params slots aside h s i →
       Stands x.body pc (form_code (where_of params h) (var_form n None (Some (plain_initializer e)))) →
@@ -81,5 +68,6 @@ module _ (x : Setting) (params slots : ℕ) (fit : SlotsFit x slots) (counts : C
       (minus_runs x params slots fit aside h p q (is_disjoint a) h.scope.next s pc i pair g (subst (Stands x.body pc) code f.0) (fetch_small x.body (suc pc) _ f2))
       (λ v s1 j k1. binds x params slots fit counts aside h n None start v s1 (suc pc) j low (subst (λ u. IsOf u v) (sym type) k1.0)
       (subst (λ u. IsInside x s1.store u v) (sym type) k1.1) (subst (λ u. IsPointed h.scope.names s1.names u v) (sym type) k1.2)
+      (type_under x.forms.takes h.scope.names s1.names (var_type h.tree h.scope None start) v (subst (λ u. IsRegion u → ⊥) (sym type) (λ r. elim r [ ])))
       (no_part_goes _ j.contents (length s1.store) (var_type h.tree h.scope None start) v (subst HasNoPart (sym type) (λ p c e. absurd cc))) k1.3 f2))
   difference_begins aside h n _ s pc i low d g f = absurd d

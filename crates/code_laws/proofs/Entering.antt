@@ -17,11 +17,11 @@ use Rattle.regent_tree.specs.declared.typing.StaticType.{StaticType}
 use Rattle.regent_tree.specs.declared.typing.StaticType.TheVariants.{Index as index_type, Integer as integer_type, Ispace as ispace_type, Nothing as no_type, Partition as partition_type, Pointer as pointer_type, Region as region_type, Truth as truth_type, Unknown as unknown_type}
 use Rattle.task_code.specs.declared.code.Code.{Code}
 use Rattle.regent_tree.specs.Store.{Store}
-use Rattle.code_laws.specs.Pointers.{AreBefore, IsCut, IsCutIn, ArePointed, AreReached, AreThere, GoBack, GoesBack, IsPointed, IsOfName}
+use Rattle.code_laws.specs.Pointers.{IsCut, IsCutIn, ArePointedIn, AreReached, AreThere, GoToParams, GoesToParams, IsPointed, IsOfName}
 use Rattle.code_laws.specs.Simple.{IsRegion, a_region_type}
 use Rattle.code_laws.specs.Standing.{AreOf, AreTaken, IsOf, IsOfGiven, IsTaken, nothing, of_region, takes_partition, takes_pointer, takes_region, takes_value}
 use Rattle.code_laws.specs.Taking.{given_region}
-use Rattle.code_laws.proofs.Pointing.{IsPlain, plain_pointed, simple_plain}
+use Rattle.code_laws.proofs.Pointing.{IsPlain, numbered, plain_pointed, simple_plain}
 
 -- ---- the values of parameters
 
@@ -101,102 +101,69 @@ from_first (b ∷ bs) a = (omega (arith, a.0), omega (arith, a.1), from_first bs
 pub params_placed_by : (tree : Tree) (ps : List Param) → ArePlacedBy (bound_params tree ps 0 ps)
 params_placed_by tree ps = from_first (bound_params tree ps 0 ps) (params_from tree ps 0 ps)
 
--- one of a number below all of these is found behind them
-found_behind : (b : Bound) (bs : List Bound) (i : ℕ) → b.number ≡ length bs → i < length bs → bound_as (b ∷ bs) i ≡ bound_as bs i
-found_behind b bs i n low = chosen (b.number == i) refl
+-- a region that is found by its number has the place of that number
+pub placed_as_numbered : (bs : List Bound) (i : ℕ) → ArePlacedBy bs → IsRegion (bound_as bs i).static_type → (bound_as bs i).place ≡ (bound_as bs i).number
+placed_as_numbered [] i a r = elim r [ ]
+placed_as_numbered (b ∷ bs) i a r = chosen (b.number == i) (placed_as_numbered bs i a.2) r
   where
-    chosen : (c : Bool) → (b.number == i) ≡ c → cond c b (bound_as bs i) ≡ bound_as bs i
-    chosen true q = absurd (omega (arith, low, n, eqb-true b.number i q))
-    chosen false q = refl
-
-placed_below : (bs : List Bound) (i : ℕ) → ArePlacedBy bs → i < length bs → (bound_as bs i).place ≡ i
-placed_below [] i a low = absurd (omega (arith, low))
-placed_below (b ∷ bs) i a low = chosen (placed_below bs i a.2) (b.number == i) refl
-  where
-    chosen : (i < length bs → (bound_as bs i).place ≡ i) → (c : Bool) → (b.number == i) ≡ c → (cond c b (bound_as bs i)).place ≡ i
-    chosen more true q = a.1 ∙ sym a.0 ∙ eqb-true b.number i q
-    chosen more false q = more (⊎_elim (λ l. l)
-        (λ g. absurd (eqb-false b.number i q (omega (arith, low, a.0, g)))) (cases_lt i (length bs)))
-
--- what is held of a region's value by its number
-held_as : (Holding : StaticType → Value → Type 0) (bs : List Bound) (names : List Value) (i : ℕ) → AreOf Holding bs names →
-    IsRegion (bound_as bs i).static_type → Holding (bound_as bs i).static_type (get_or names (bound_as bs i).place nothing)
-held_as Holding [] names i a r = absurd (elim r [ ])
-held_as Holding (b ∷ bs) names i a r = chosen (held_as Holding bs names i a.2) (b.number == i) r
-  where
-    chosen : (IsRegion (bound_as bs i).static_type → Holding (bound_as bs i).static_type (get_or names (bound_as bs i).place nothing)) →
-        (c : Bool) → IsRegion (cond c b (bound_as bs i)).static_type →
-        Holding (cond c b (bound_as bs i)).static_type (get_or names (cond c b (bound_as bs i)).place nothing)
-    chosen more true r = a.1
-    chosen more false r = more r
+    chosen : (c : Bool) → (IsRegion (bound_as bs i).static_type → (bound_as bs i).place ≡ (bound_as bs i).number) →
+        IsRegion (cond c b (bound_as bs i)).static_type → (cond c b (bound_as bs i)).place ≡ (cond c b (bound_as bs i)).number
+    chosen true more r = a.1 ∙ sym a.0
+    chosen false more r = more r
 
 is_region : (t : StaticType) (v : Value) → IsRegion t → IsOf t v → v ≡ a_region (region_of v)
 is_region _ _ (a_region_type k sp args r) (of_region _ _ _ _ q) = refl
 
-module _ (s : Scope) (ts : List StaticType) (vs : List Value) (many : length vs ≡ length s.names) where
+module _ (s : Scope) (ts : List StaticType) (vs : List Value) (many : length vs ≡ length s.names) (own : ArePlacedBy s.names)
+    (typed : AreOf IsOf s.names vs) where
   abbrev us : List Value
   us = entered s vs ts vs
 
-  -- parameters up to one, which are found as they are among all
-  abbrev AreFound : List Bound → Type 0
-  AreFound bs = (i : ℕ) → i < length bs → bound_as s.names i ≡ bound_as bs i
-
   -- the region of a parameter by its number
-  record IsBack (bs : List Bound) (i : ℕ) : Type 0 where
-    named : IsOfName (bound_as bs i) (length bs) us (space_in (bound_as bs i).static_type) i (region_of (get_or vs i nothing))
+  record IsGoal (i : ℕ) : Type 0 where
+    named : IsOfName (bound_as s.names i) (length s.names) us (space_in (bound_as s.names i).static_type) i (region_of (get_or vs i nothing))
     bound : region_bound s vs (term.Name i) ≡ region_of (get_or vs i nothing)
 
-  region_back : (bs : List Bound) (i : ℕ) → ArePlacedBy bs → length bs ≤ length s.names → AreOf IsOf bs vs → AreFound bs → i < length bs →
-      (bound_as s.names i).number ≡ i → IsRegion (bound_as s.names i).static_type → IsBack bs i
-  region_back bs i own low typed found less number is_one =
-      let b = bound_as bs i in
-      let here : bound_as s.names i ≡ b = found i less in
-      let region : IsRegion b.static_type = subst (λ (b : Bound). IsRegion b.static_type) here is_one in
-      let at = placed_below bs i own less in
+  goal_found : (i : ℕ) → (bound_as s.names i).number ≡ i → IsRegion (bound_as s.names i).static_type → IsGoal i
+  goal_found i number region =
+      let b = bound_as s.names i in
+      let at : b.place ≡ i = placed_as_numbered s.names i own region ∙ number in
       let v = get_or vs i nothing in
-      let is : v ≡ a_region (region_of v) =
-      is_region b.static_type v region (subst (λ k. IsOf b.static_type (get_or vs k nothing)) at (held_as IsOf bs vs i typed region)) in record {
+      let held = numbered IsOf s.names vs i typed region in
+      let is : v ≡ a_region (region_of v) = is_region b.static_type v region (subst (λ k. IsOf b.static_type (get_or vs k nothing)) at held.0) in record {
         named = record {
-          numbered = subst (λ (b : Bound). b.number ≡ i) here number;
+          numbered = number;
           region = region;
           space = refl;
-          below = omega (arith, at, less);
+          below = held.1;
           value = ap (λ k. get_or us k nothing) at ∙ region_entered s vs ts vs i (region_of v) is;
         };
-        bound = ap (λ k. region_of (get_or vs k (a_region no_region))) (ap (λ (b : Bound). b.place) here ∙ at)
-            ∙ ap region_of (get_or_default vs i (a_region no_region) nothing (omega (arith, less, low, many)));
+        bound = ap (λ k. region_of (get_or vs k (a_region no_region))) at
+            ∙ ap region_of (get_or_default vs i (a_region no_region) nothing (omega (arith, at, held.1, many)));
       }
 
-  cut_back : (bs : List Bound) (r : ℕ) (q : Partition) → ArePlacedBy bs → length bs ≤ length s.names → AreOf IsOf bs vs → AreFound bs → r < length bs →
-      (bound_as s.names r).number ≡ r → IsRegion (bound_as s.names r).static_type → IsCutIn (given_region vs r) q → IsCut bs us r q
-  cut_back bs r q own low typed found less number is_one c =
-      let back = region_back bs r own low typed found less number is_one in
-      record { parent = given_region vs r; is = back.named; root = c.root; sets = c.sets; apart = c.apart; few = c.few }
+  cut_found : (r : ℕ) (q : Partition) → (bound_as s.names r).number ≡ r → IsRegion (bound_as s.names r).static_type → IsCutIn (given_region vs r) q →
+      IsCut s.names us r q
+  cut_found r q number region c =
+      record { parent = given_region vs r; is = (goal_found r number region).named; root = c.root; sets = c.sets; apart = c.apart; few = c.few }
 
-  reached_back : (bs : List Bound) (sp : ℕ) (rs : List Reach) → ArePlacedBy bs → length bs ≤ length s.names → AreOf IsOf bs vs → AreFound bs →
-      AreThere s.names sp rs → AreBefore (length bs) rs → AreReached bs us sp rs (regions_reached s vs rs)
-  reached_back bs sp [] own low typed found there before = tt
-  reached_back bs sp (Some (term.Name i) ∷ rs) own low typed found there before =
-      let back = region_back bs i own low typed found before.0 there.0 there.1 in
-      let space : space_in (bound_as bs i).static_type ≡ sp = subst (λ (b : Bound). space_in b.static_type ≡ sp) (found i before.0) there.2 in (
-        subst (λ q. IsOfName (bound_as bs i) (length bs) us sp i q) (sym back.bound)
-            (subst (λ sp. IsOfName (bound_as bs i) (length bs) us sp i (region_of (get_or vs i nothing))) space back.named),
-        reached_back bs sp rs own low typed found there.3 before.1,
+  goals_reached : (sp : ℕ) (rs : List Reach) → AreThere s.names sp rs → AreReached s.names us sp rs (regions_reached s vs rs)
+  goals_reached sp [] there = tt
+  goals_reached sp (Some (term.Name i) ∷ rs) there =
+      let goal = goal_found i there.0 there.1 in (
+        subst (λ q. IsOfName (bound_as s.names i) (length s.names) us sp i q) (sym goal.bound)
+            (subst (λ sp. IsOfName (bound_as s.names i) (length s.names) us sp i (region_of (get_or vs i nothing))) there.2 goal.named),
+        goals_reached sp rs there.3,
       )
-  reached_back bs sp (Some (term.Child p c) ∷ rs) own low typed found there before = absurd there
-  reached_back bs sp (None ∷ rs) own low typed found there before = reached_back bs sp rs own low typed found there before
+  goals_reached sp (Some (term.Child p c) ∷ rs) there = absurd there
+  goals_reached sp (None ∷ rs) there = goals_reached sp rs there
 
   -- so the parameters' pointers go where their types say
-  pub entered_pointed : (bs : List Bound) → ArePlacedBy bs → length bs ≤ length s.names → AreFound bs → AreOf IsOf bs vs → AreOf (Enters s vs) bs us →
-      GoBack s.names bs → ArePointed bs us
-  entered_pointed [] own low found typed enters back = tt
-  entered_pointed (b ∷ bs) own low found typed enters back =
-      let behind : AreFound bs = λ i less. found i (omega (arith, less)) ∙ found_behind b bs i own.0 less in
-      (one behind b.static_type (get_or us b.place nothing) enters.1 back.0, entered_pointed bs own.2 (omega (arith, low)) behind typed.2 enters.2 back.1)
+  pub entered_pointed : (bs : List Bound) → AreOf (Enters s vs) bs us → GoToParams s.names bs → ArePointedIn s.names bs us
+  entered_pointed [] enters goals = tt
+  entered_pointed (b ∷ bs) enters goals = (one b.static_type (get_or us b.place nothing) enters.1 goals.0, entered_pointed bs enters.2 goals.1)
     where
-      one : AreFound bs → (t : StaticType) (v : Value) → Enters s vs t v → GoesBack s.names b.number t → IsPointed bs us t v
-      one found _ _ (enters_plain t v p) g = plain_pointed bs us t v p
-      one found _ _ (enters_cut d r p q c) g =
-          cut_back bs r q own.2 (omega (arith, low)) typed.2 found (subst (λ n. r < n) own.0 g.0) g.1 g.2 c
-      one found _ _ (enters_pointer k sp args rs tg) g =
-          reached_back bs sp rs own.2 (omega (arith, low)) typed.2 found g.0 (subst (λ n. AreBefore n rs) own.0 g.1)
+      one : (t : StaticType) (v : Value) → Enters s vs t v → GoesToParams s.names t → IsPointed s.names us t v
+      one _ _ (enters_plain t v p) g = plain_pointed s.names us t v p
+      one _ _ (enters_cut d r p q c) g = cut_found r q g.0 g.1 c
+      one _ _ (enters_pointer k sp args rs tg) g = goals_reached sp rs g

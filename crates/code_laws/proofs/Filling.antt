@@ -1,5 +1,5 @@
 -- The fields of a region that has a name are filled.
-use Rattle.std.proofs.Common.{◌≡◌, ◌⊎◌, inl, inr, ℕ, suc, ◌<◌, ℤ, List, [], ◌∷◌, ◌++◌, true, Some, refl, sym, ap, ◌∙◌, subst, arith}
+use Rattle.std.proofs.Common.{◌≡◌, ◌⊎◌, ⊎_elim, inl, inr, ℕ, suc, ◌<◌, ℤ, List, [], ◌∷◌, ◌++◌, true, Some, refl, sym, ap, ◌∙◌, subst, arith}
 use Rattle.std.specs.Prelude.{get_or, length, slice_get}
 use Rattle.std.proofs.lemmas.Int.{int_wrap_fits}
 use Rattle.std.proofs.lemmas.Option.{none-some, same_Some, slice_get-get_or}
@@ -13,7 +13,7 @@ use Rattle.regent_tree.specs.declared.typing.StaticType.{StaticType}
 use Rattle.regent_tree.specs.Accesses.{args_in, space_in}
 use Rattle.regent_tree.specs.Execution.{Going, fill_fields}
 use Rattle.regent_tree.specs.Laws.{SameRoots}
-use Rattle.regent_tree.specs.Running.{State, Here, and_then}
+use Rattle.regent_tree.specs.Running.{State, Here, Run, and_then}
 use Rattle.regent_tree.specs.Scopes.{bound_to}
 use Rattle.regent_tree.specs.StaticTypes.{field_kind, field_place, field_term, field_type}
 use Rattle.regent_tree.specs.Store.{no_root, Store, touch_all, write_all, write_at}
@@ -49,13 +49,13 @@ use Rattle.code_laws.specs.Standing.{Agrees, Aside, Comes, IsInside, IsOf, Slots
 use Rattle.code_laws.specs.Typed.{AreFilled, MayFill}
 use Rattle.code_laws.proofs.Accesses.{region_there}
 use Rattle.code_laws.proofs.Kept.{kept_as, numbers_at_all}
-use Rattle.code_laws.proofs.Moving.{filled_at}
+use Rattle.code_laws.proofs.Moving.{BreaksAt, filled_at}
 use Rattle.code_laws.proofs.Reaching.{kept_here, reached, region_lies_in, region_stays, rewritten}
 use Rattle.code_laws.proofs.Runs.{comes_before, leads_by, leads_none, leads_twice}
 use Rattle.code_laws.proofs.Touching.{parted, same_width-itself, touches}
 use Rattle.code_laws.proofs.Values.{load_value}
 use Rattle.code_laws.proofs.Wider.{any_field, filling}
-use Rattle.code_laws.proofs.Writes.{GoesOn, field_value}
+use Rattle.code_laws.proofs.Writes.{ConvertedAt, GoesOn, field_value}
 
 -- writes keep the shapes of roots
 pub all_written : (store : Store) (root field : ℕ) (xs : List ℕ) (z : ℤ) → SameRoots store (write_all store root field xs z)
@@ -196,8 +196,18 @@ module _ (x : Setting) (params slots : ℕ) (fit : SlotsFit x slots) (aside : As
       let there : slice_get i.frame.slots k ≡ Some (machine_value i.contents v) =
       slice_get-get_or i.frame.slots k blank (omega (arith, fit pc _ stands.0, g.slots_are)) ∙ ap (λ u. Some u) kept_there in
       let shape : Going → Instance → Instance = λ g j. placed (past (fill_code w from t (slot_named w r) (f ∷ fs)) pc) [] j in
+      let rest : Value → Run Going = λ u. λ s1. fill_fields h from v t q fs (record s1 {
+        store = write_all s1.store q.root place q.points (kept_number u);
+        touches = s1.touches ++ touch_all q.root place mode.Write q.points;
+      }) in
       let a = past (converted_code w from out) (suc pc) in
-      let c = filled_at x params slots fit aside h from out v s (suc pc) [] i (filling x.forms.keeps from out fine.0) o stands.1.0 in
+      let loaded = placed (suc pc) (machine_value i.contents v ∷ []) i in
+      comes_before x shape (GoesOn x params slots fit aside h) (placed pc [] i) loaded _
+      (leads_by x _ _ (instr.Load k) h.line stands.0
+      (ap (λ u. on_step x (placed pc [] i) (load (machine_of (placed pc [] i)) u)) there
+      ∙ ap (on_step x (placed pc [] i)) (load_value i.contents v (machine_of (placed pc [] i)))))
+      (⊎_elim
+      (λ (c : ConvertedAt x params slots fit aside h from out v s (suc pc) [] i).
       let u = c.value in
       let field = any_field x.forms.keeps w r f out fine.1 in
       let wide = width_of kind in
@@ -224,19 +234,15 @@ module _ (x : Setting) (params slots : ℕ) (fit : SlotsFit x slots) (aside : As
       let root_is : (get_or s.store q.root no_root).space ≡ space_in t = (region_lies_in x s.store t q kind_is lies).of_space in
       let kept = numbers_at_all h.tree s.store (kept_here x params slots aside h s i g) q.root place (space_in t) q.points (kept_number u) root_is sound in
       let g2 = rewritten x params slots aside h s i filled.0 ts store roots kept g holds in
-      comes_before x shape (GoesOn x params slots fit aside h) (placed pc [] i) (placed (suc pc) (machine_value i.contents v ∷ []) i) _
-      (leads_by x _ _ (instr.Load k) h.line stands.0
-      (ap (λ u. on_step x (placed pc [] i) (load (machine_of (placed pc [] i)) u)) there
-      ∙ ap (on_step x (placed pc [] i)) (load_value i.contents v (machine_of (placed pc [] i)))))
-      (comes_before x shape (GoesOn x params slots fit aside h) _ (placed a (machine_value i.contents u ∷ []) i) _ c.leads
+      comes_before x shape (GoesOn x params slots fit aside h) loaded (placed a (machine_value i.contents u ∷ []) i) _ c.leads
       (subst (λ y. Comes x (placed a (y ∷ []) i) shape (GoesOn x params slots fit aside h) (fill_fields h from v t q (f ∷ fs) s))
       (sym (field_value i.contents declared out u field.keeps c.typed))
       (comes_before x shape (GoesOn x params slots fit aside h) (placed a (machine.Number (kept_number u) ∷ []) i)
       (placed (suc a) [] (parted filled.0 i)) _ filled.1
       (subst (λ y. Comes x (placed (suc a) [] (parted filled.0 i)) shape (GoesOn x params slots fit aside h) y)
-      (sym (ap (λ y. and_then y (λ u. λ s1. fill_fields h from v t q fs (record s1 {
-        store = write_all s1.store q.root place q.points (kept_number u);
-        touches = s1.touches ++ touch_all q.root place mode.Write q.points;
-      }))) c.gives_it))
+      (sym (ap (λ y. and_then y rest) c.gives_it))
       (fields_filled h r from v q fs (record s { store = store; touches = ts }) (suc a) (parted filled.0 i) fine.2 may.1 kind_is o is
       (region_stays x s.store store t q kind_is roots lies) low kept_there g2 stands.1.1.1)))))
+      (λ (b : BreaksAt x params slots fit aside h from out v s (suc pc) [] i).
+      subst (λ y. Comes x loaded shape (GoesOn x params slots fit aside h) y) (sym (ap (λ y. and_then y rest) b.breaks_it)) b.ends)
+      (filled_at x params slots fit aside h from out v s (suc pc) [] i g.text (filling x.forms.keeps from out fine.0) o stands.1.0))

@@ -4,6 +4,8 @@ use Rattle.std.proofs.lemmas.Int.{ints}
 use Rattle.std.proofs.lemmas.Option.{none-some, same_Some}
 use Rattle.std.specs.Int.{int_wrap}
 use Rattle.std.specs.Fmt.{digits}
+use Rattle.lane_kernels.specs.declared.numbers.Mode.TheVariants as mode
+use Rattle.lane_kernels.specs.declared.numbers.Op.TheVariants.{Sum}
 use Rattle.lane_kernels.specs.declared.numbers.Width.TheVariants.{W64}
 use Rattle.regent_tree.specs.StaticTypes.{entry_name, task_named}
 use Rattle.regent_tree.specs.Syntax.{TaskTree}
@@ -17,6 +19,7 @@ use Rattle.code_laws.proofs.LocalExample.{all_keep}
 use Rattle.code_laws.proofs.LocalRuns.{accepted_programs_run_as_meant}
 use Rattle.code_laws.specs.Simple.{a_region_type, a_space_type, an_integer, fits_64, number_integer, scalar_integer, simple_integer, two_integers, two_regions}
 use Rattle.code_laws.specs.Standing.{of_integer}
+use Rattle.code_laws.proofs.Under.{made_may, taken_may}
 use Rattle.code_laws.specs.Typed.{IsTypedBlock}
 
 -- the entry task
@@ -26,19 +29,19 @@ main = task_named handing_program (entry_name handing_program)
 main_typed : IsTypedBlock (forms_by true false handing_program main) (place_of handing_program main) main.body
 main_typed = (
   -- the root
-  (refl, a_space_type _, ((refl, simple_integer _), an_integer _), record { there = omega arith; few = omega arith }, omega arith),
+  (refl, a_space_type _, ((refl, simple_integer _), an_integer _), record { there = omega arith; few = omega arith }, (omega arith, refl)),
   (
     -- it is handed over
     (
       refl,
-      (refl, ((refl, a_region_type _ _ _ _, omega arith, λ low. absurd (omega (arith, low))), ((refl, a_region_type _ _ _ _, omega arith, λ low. absurd (omega (arith, low))), tt)), ((refl, refl, a_region_type _ _ _ _, a_region_type _ _ _ _, inl refl), tt), (tt, (tt, (tt, tt))), (tt, (tt, (tt, tt)))),
+      (refl, ((refl, a_region_type _ _ _ _, omega arith, made_may _ _ 0 mode.Read (omega arith) refl), ((refl, a_region_type _ _ _ _, omega arith, made_may _ _ 0 mode.Read (omega arith) refl), tt)), ((refl, refl, a_region_type _ _ _ _, a_region_type _ _ _ _, inl refl), tt), (tt, (tt, (tt, tt))), (tt, (tt, (tt, tt)))),
       (inr (inl (refl, refl, two_regions _ _ _ _ _ _ _)), (inr (inl (refl, refl, two_regions _ _ _ _ _ _ _)), (inl ((two_integers _ _, refl), omega (arith, ints)), tt))),
     ),
     (
       -- and again, behind a call that takes it
       (
         refl,
-        (refl, ((refl, a_region_type _ _ _ _, omega arith, λ low. absurd (omega (arith, low))), ((refl, a_region_type _ _ _ _, omega arith, λ low. absurd (omega (arith, low))), tt)), ((refl, refl, a_region_type _ _ _ _, a_region_type _ _ _ _, inl refl), tt), (tt, (tt, (tt, tt))), (tt, (tt, (tt, tt)))),
+        (refl, ((refl, a_region_type _ _ _ _, omega arith, made_may _ _ 0 mode.Read (omega arith) refl), ((refl, a_region_type _ _ _ _, omega arith, made_may _ _ 0 mode.Read (omega arith) refl), tt)), ((refl, refl, a_region_type _ _ _ _, a_region_type _ _ _ _, inl refl), tt), (tt, (tt, (tt, tt))), (tt, (tt, (tt, tt)))),
         (
           inr (inl (refl, refl, two_regions _ _ _ _ _ _ _)),
           (
@@ -49,7 +52,7 @@ main_typed = (
                 (
                   refl,
                   scalar_integer _,
-                  (refl, ((refl, a_region_type _ _ _ _, omega arith, λ low. absurd (omega (arith, low))), tt), ((refl, refl, a_region_type _ _ _ _, a_region_type _ _ _ _, inl refl), tt), (tt, (tt, tt)), (tt, (tt, tt))),
+                  (refl, ((refl, a_region_type _ _ _ _, omega arith, made_may _ _ 0 mode.Read (omega arith) refl), tt), ((refl, refl, a_region_type _ _ _ _, a_region_type _ _ _ _, inl refl), tt), (tt, (tt, tt)), (tt, (tt, tt))),
                   (inr (inl (refl, refl, two_regions _ _ _ _ _ _ _)), (inr (inl (refl, refl, two_regions _ _ _ _ _ _ _)), tt)),
                 ),
               ),
@@ -68,7 +71,7 @@ main_typed = (
               number_integer _,
               refl,
               record { named = refl; region = a_region_type _ _ _ _; field = omega arith; keeps = fits_64 },
-              λ low. absurd (omega (arith, low)),
+              made_may _ _ 0 mode.Read (omega arith) refl,
             ),
             tt,
           ),
@@ -87,8 +90,8 @@ tasks zero t e = subst (IsTypedBy true false handing_program) (same_Some _ t e) 
     (
       two_integers _ _,
       (
-        (omega (arith, ints), number_integer _, refl, record { named = refl; region = a_region_type _ _ _ _; field = omega arith; keeps = fits_64 }, λ low. refl),
-        (number_integer _, number_integer _, (omega (arith, ints), number_integer _, refl, record { named = refl; region = a_region_type _ _ _ _; field = omega arith; keeps = fits_64 }, λ low. refl), tt),
+        (omega (arith, ints), number_integer _, refl, record { named = refl; region = a_region_type _ _ _ _; field = omega arith; keeps = fits_64 }, taken_may _ _ 0 mode.Read (omega arith) refl),
+        (number_integer _, number_integer _, (omega (arith, ints), number_integer _, refl, record { named = refl; region = a_region_type _ _ _ _; field = omega arith; keeps = fits_64 }, taken_may _ _ 0 mode.Read (omega arith) refl), tt),
       ),
     ),
     tt,
@@ -99,7 +102,7 @@ tasks (suc zero) t e = subst (IsTypedBy true false handing_program) (same_Some _
   given = gives_nothing;
   typed = (
     -- the write
-    (two_integers _ _, (refl, simple_integer _), omega (arith, ints), number_integer _, refl, record { named = refl; region = a_region_type _ _ _ _; field = omega arith; keeps = fits_64 }, λ low. refl),
+    (two_integers _ _, (refl, simple_integer _), omega (arith, ints), number_integer _, refl, record { named = refl; region = a_region_type _ _ _ _; field = omega arith; keeps = fits_64 }, taken_may _ _ 0 mode.Write (omega arith) refl),
     (
       -- the reduction of what a call gives that takes both
       (
@@ -110,8 +113,8 @@ tasks (suc zero) t e = subst (IsTypedBy true false handing_program) (same_Some _
           scalar_integer _,
           (
             refl,
-            ((refl, a_region_type _ _ _ _, omega arith, λ low. refl), tt),
-            ((refl, refl, a_region_type _ _ _ _, a_region_type _ _ _ _, inr (omega arith, omega arith, refl)), tt),
+            ((refl, a_region_type _ _ _ _, omega arith, taken_may _ _ 0 mode.Read (omega arith) refl), tt),
+            ((refl, refl, a_region_type _ _ _ _, a_region_type _ _ _ _, inr (inl (omega arith, omega arith, refl))), tt),
             (tt, (tt, tt)),
             (tt, (tt, tt)),
           ),
@@ -121,7 +124,7 @@ tasks (suc zero) t e = subst (IsTypedBy true false handing_program) (same_Some _
         number_integer _,
         refl,
         record { named = refl; region = a_region_type _ _ _ _; field = omega arith; keeps = fits_64 },
-        λ low. refl,
+        taken_may _ _ 0 (mode.Reduce Sum) (omega arith) refl,
       ),
       tt,
     ),

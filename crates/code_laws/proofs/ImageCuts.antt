@@ -43,13 +43,12 @@ use Rattle.memory_laws.specs.Places.{number_at}
 use Rattle.code_rules.specs.Initializers.{field_of}
 use Rattle.code_rules.specs.Pieces.{op}
 use Rattle.code_rules.specs.Slots.{slot_named}
-use Rattle.code_laws.specs.Arguments.{IsCutName, IsGivenPart, IsParent, LiesBelow, parent_bound}
+use Rattle.code_laws.specs.Arguments.{IsCutName, IsParent, LiesBelow, parent_bound}
 use Rattle.code_laws.specs.Simple.{term_in}
 use Rattle.code_laws.specs.Standing.{Agrees, Aside, Comes, SlotsFit, Stands, nothing, of_partition, where_of}
-use Rattle.code_laws.specs.Steps.{Setting, Taking, machine_of, on_step, placed}
-use Rattle.code_laws.specs.Taking.{IsHad, IsSubregion}
+use Rattle.code_laws.specs.Steps.{Setting, machine_of, on_step, placed}
+use Rattle.code_laws.specs.Taking.{IsSubregion}
 use Rattle.code_laws.specs.Typed.{IsScanned}
-use Rattle.code_laws.proofs.CallTakes.{part_given}
 use Rattle.code_laws.proofs.Columns.{are_pointers, columns}
 use Rattle.code_laws.proofs.Cuts.{GoodCut, NamedRegion, all_within, cut_is, made_runs, region_named_there, sound_by}
 use Rattle.code_laws.proofs.Good.{valued}
@@ -59,6 +58,8 @@ use Rattle.code_laws.proofs.Reaching.{kept_here, Reached, reached, region_had, r
 use Rattle.code_laws.proofs.Rows.{three_least}
 use Rattle.code_laws.proofs.Runs.{comes_before, leads_by}
 use Rattle.code_laws.proofs.Touching.{parted}
+use Rattle.code_laws.proofs.Began.{lies_below}
+use Rattle.code_laws.proofs.Under.{under_named, under_numbered}
 use Rattle.code_laws.proofs.Values.{not_true}
 
 -- ---- sets by where a field leads
@@ -101,18 +102,6 @@ parts_wider q p sets sub parts k d l =
     (part.0, within_from_each (get_or sets k d) p.points (λ x m. points_within q p sub x (within_each (get_or sets k d) q.points part.1 x m)))
 
 module _ (x : Setting) (params slots : ℕ) (fit : SlotsFit x slots) (aside : Aside) where
-  -- the regions that two bindings have
-  lies_below : (h : Here) (s : State) (i : Instance) (a b : Bound) (q p : Region) → get_or s.names a.place nothing ≡ a_region q →
-      get_or s.names b.place nothing ≡ a_region p → IsHad x (term_in a.static_type) q → IsHad x (term_in b.static_type) p →
-      LiesBelow x.forms.takes a b → Agrees x params slots aside h s i → IsSubregion q p
-  lies_below h s i a b q p first second had there (inl same) g =
-      subst (IsSubregion q) (ap region_of (sym first ∙ ap (λ k. get_or s.names k nothing) same ∙ second)) (refl, λ root point e. e)
-  lies_below h s i a b q p first second had there (inr part) g = by x.forms.takes refl part
-    where
-      by : (o : Option Taking) → x.forms.takes ≡ o → IsGivenPart o (term_in a.static_type) (term_in b.static_type) → IsSubregion q p
-      by None e is = absurd is
-      by (Some y) e is = part_given x params slots fit aside y (term_in a.static_type) (term_in b.static_type) q p e is had there g.framed.parts
-
   -- what the machine has for a region and a partition
   abbrev value_of : Instance → Region → RegionValue
   value_of i q = region_with (number_at i.contents q.root) q.points
@@ -245,7 +234,7 @@ module _ (x : Setting) (params slots : ℕ) (fit : SlotsFit x slots) (aside : As
   -- `image(n, p, r.f)`
   pub image_runs : (h : Here) (n p r f : Name) (own : ℕ) (s : State) (pc : ℕ) (i : Instance) → IsParent (where_of params h) n →
       IsCutName (where_of params h) p → IsScanned x.forms (where_of params h) r f →
-      LiesBelow x.forms.takes (parent_bound (where_of params h) p) (bound_to h.scope.names r) → Agrees x params slots aside h s i →
+      LiesBelow x.forms.takes (where_of params h) (parent_bound (where_of params h) p) (bound_to h.scope.names r) → Agrees x params slots aside h s i →
       Stands x.body pc (op (instr.Image (slot_named (where_of params h) n) (slot_named (where_of params h) p) (slot_named (where_of params h) r)
       (field_of (where_of params h) r f)) h.line) → suc pc < 2 ^ 32 →
       Comes x (placed pc [] i) (valued (suc pc) []) (GoodCut x params slots fit aside h (partition_type image_flag (bound_to h.scope.names n).number own))
@@ -262,9 +251,10 @@ module _ (x : Setting) (params slots : ℕ) (fit : SlotsFit x slots) (aside : As
       let b = region_named_there x params slots fit aside h r s i scanned.parent room.2 g in
       let k = parent_of (bound_to h.scope.names p).static_type in
       let o = bound_as h.scope.names k in
-      let sub = lies_below h s i o (bound_to h.scope.names r) q.cut.parent b.region q.cut.is.value b.is
+      let sub = lies_below x params slots fit aside h s i o (bound_to h.scope.names r) q.cut.parent b.region q.cut.is.value b.is q.cut.is.region
       (region_had x s.store o.static_type q.cut.parent q.cut.is.region (parent_inside x params slots fit aside h s i k q.partition q.cut g))
-      (region_had x s.store (bound_to h.scope.names r).static_type b.region scanned.parent.region b.inside) below g in
+      (region_had x s.store (bound_to h.scope.names r).static_type b.region scanned.parent.region b.inside)
+      (under_numbered x.forms.takes h.scope.next h.scope.names s.names k cut.numbers g.under q.cut.is.region) below g in
       let asked : lie_in (seen i q.partition).root.0 (sets_of (seen i q.partition)) (value_of i b.region) ≡ true =
       and_from (number_at i.contents q.partition.root == number_at i.contents b.region.root) (list_all (λ s. within s b.region.points) (sets_of (seen i q.partition)))
       (eq-eqb (number_at i.contents q.partition.root) (number_at i.contents b.region.root) (ap (number_at i.contents) (q.cut.root ∙ sub.0)))
@@ -279,7 +269,7 @@ module _ (x : Setting) (params slots : ℕ) (fit : SlotsFit x slots) (aside : As
   -- `preimage(n, p, r.f)`
   pub preimage_runs : (h : Here) (n p r f : Name) (e : Bool) (own : ℕ) (s : State) (pc : ℕ) (i : Instance) → IsParent (where_of params h) n →
       IsCutName (where_of params h) p → IsScanned x.forms (where_of params h) r f →
-      LiesBelow x.forms.takes (bound_to h.scope.names n) (bound_to h.scope.names r) → Agrees x params slots aside h s i →
+      LiesBelow x.forms.takes (where_of params h) (bound_to h.scope.names n) (bound_to h.scope.names r) → Agrees x params slots aside h s i →
       Stands x.body pc (op (instr.Preimage (slot_named (where_of params h) n) (slot_named (where_of params h) p) (slot_named (where_of params h) r)
       (field_of (where_of params h) r f)) h.line) → suc pc < 2 ^ 32 →
       Comes x (placed pc [] i) (valued (suc pc) []) (GoodCut x params slots fit aside h (partition_type e (bound_to h.scope.names n).number own))
@@ -294,9 +284,10 @@ module _ (x : Setting) (params slots : ℕ) (fit : SlotsFit x slots) (aside : As
       let a = region_named_there x params slots fit aside h n s i parent room.0 g in
       let q = partition_named_there x params slots fit aside h p s i cut room.1 g in
       let b = region_named_there x params slots fit aside h r s i scanned.parent room.2 g in
-      let sub = lies_below h s i (bound_to h.scope.names n) (bound_to h.scope.names r) a.region b.region a.is b.is
+      let sub = lies_below x params slots fit aside h s i (bound_to h.scope.names n) (bound_to h.scope.names r) a.region b.region a.is b.is parent.region
       (region_had x s.store (bound_to h.scope.names n).static_type a.region parent.region a.inside)
-      (region_had x s.store (bound_to h.scope.names r).static_type b.region scanned.parent.region b.inside) below g in
+      (region_had x s.store (bound_to h.scope.names r).static_type b.region scanned.parent.region b.inside)
+      (under_named x.forms.takes h.scope.next h.scope.names s.names n parent.numbers g.under parent.named) below g in
       let asked : lie_in (value_of i a.region).root.0 (a.region.points ∷ []) (value_of i b.region) ≡ true =
       and_from (number_at i.contents a.region.root == number_at i.contents b.region.root) (within a.region.points b.region.points && true)
       (eq-eqb (number_at i.contents a.region.root) (number_at i.contents b.region.root) (ap (number_at i.contents) sub.0))

@@ -223,7 +223,7 @@ written_reached h t s s1 w o long same =
 
 -- the regions of the pointer that such an expression gives
 pub pointing : (forms : Forms) (params : ℕ) (h : Here) (e : Expression) (s : State) → IsTyped forms (where_of params h) e →
-    IsPointing (where_of params h) e → ArePointed h.scope.names s.names → AreOf IsOf h.scope.names s.names →
+    IsPointing (where_of params h) e → ArePointed params s.names h.scope.names → AreOf IsOf h.scope.names s.names →
     length s.names ≡ length h.scope.names →
     GivesOnly (λ v s1. IsPointed h.scope.names s1.names (typed (where_of params h) e) v) (value h e s)
 pointing forms params h (access_expr n no_step) s fine p a o long = named_pointed h.scope.next h.scope.names s.names n p a fine.0

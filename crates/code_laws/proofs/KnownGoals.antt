@@ -19,6 +19,7 @@ use Rattle.check_rules.specs.scopes.Sound.{IsSoundTask}
 use Rattle.check_rules.specs.types.TypedForms.{field_of}
 use Rattle.code_rules.specs.Slots.{Where, bound}
 use Rattle.regent_tree.specs.declared.typing.StaticType.{StaticType}
+use Rattle.local_form.specs.LocalForm.{Marked}
 use Rattle.code_laws.specs.Handing.{forms_by, takes_by}
 use Rattle.code_laws.specs.Simple.{term_in}
 use Rattle.code_laws.specs.Taking.{MayDo}
@@ -33,7 +34,7 @@ use Rattle.code_laws.proofs.Privileges.{mode_in}
 use Rattle.check_rules.specs.rules.Privileges.{regions_named}
 
 -- of a part, what may be done with the whole
-part_may : (handing keeping : Bool) (task : TaskTree) (w : Where) → IsSoundTask w.tree task → KnowsHead w.tree task w.scope → Falls w.scope.next w.scope.names →
+part_may : {m : Marked} (handing keeping : Bool) (task : TaskTree) (w : Where) → IsSoundTask w.tree task → KnowsHead m w.tree task w.scope → Falls w.scope.next w.scope.names →
     (field sp p : ℕ) (c : Colour) (a : Access) → IsCutAmong w.scope.names sp p →
     may_do (rights_declared w.tree task) w.scope.known (wanting field a (place.Child p c)) ≡ true →
     MayDo (takes_by handing w.tree task) (term_in (bound_as w.scope.names (parent_of (bound_as w.scope.names p).static_type)).static_type) field (mode_in a)
@@ -48,7 +49,7 @@ part_may handing keeping task w sound h falls field sp p c a cut e =
     (subst (λ u. MayDo (takes_by handing w.tree task) u field (mode_in a)) (sym own) (may_touch handing w.tree task w.scope sound h r field a whole))
 
 -- so of each region to which a pointer may go
-reach_goals : (handing keeping : Bool) (task : TaskTree) (w : Where) → IsSoundTask w.tree task → KnowsHead w.tree task w.scope → Falls w.scope.next w.scope.names →
+reach_goals : {m : Marked} (handing keeping : Bool) (task : TaskTree) (w : Where) → IsSoundTask w.tree task → KnowsHead m w.tree task w.scope → Falls w.scope.next w.scope.names →
     (field sp : ℕ) (a : Access) (rs : List Reach) → AreGoals w.scope.names sp rs →
     list_all (may_do (rights_declared w.tree task) w.scope.known) (map (wanting field a) (regions_named rs)) ≡ true →
     MayReach (forms_by handing keeping w.tree task) w rs field (mode_in a)
@@ -63,7 +64,7 @@ reach_goals handing keeping task w sound h falls field sp a (Some (place.Child p
 reach_goals handing keeping task w sound h falls field sp a (Some (place.Child p c) ∷ (r ∷ rs)) among e = absurd cc
 
 -- so of a field of what a pointer goes to
-pub aimed_reach : (handing keeping : Bool) (marked : FieldMarks) (task : TaskTree) (w : Where) → IsSoundTask w.tree task → KnowsHead w.tree task w.scope → Falls w.scope.next w.scope.names →
+pub aimed_reach : {m : Marked} (handing keeping : Bool) (marked : FieldMarks) (task : TaskTree) (w : Where) → IsSoundTask w.tree task → KnowsHead m w.tree task w.scope → Falls w.scope.next w.scope.names →
     (t : StaticType) (f : Name) (a : Access) → (p : IsAimed keeping marked w.tree w.scope.names t f) →
     lacks w.tree task w.scope (wanted_of_step w.tree a (field_of t f)) ≡ false →
     MayReach (forms_by handing keeping w.tree task) w (reaches_of t) (field_place w.tree (space_in t) f) (mode_in a)
@@ -79,7 +80,7 @@ aimed_reach handing keeping marked task w sound h falls t f a p lacking =
     (reach_goals handing keeping task w sound h falls field (space_in t) a p.reaches p.among (not-false _ all))
 
 -- which is a name's
-pub aimed_may : (handing keeping : Bool) (marked : FieldMarks) (task : TaskTree) (w : Where) → IsSoundTask w.tree task → KnowsHead w.tree task w.scope → Falls w.scope.next w.scope.names →
+pub aimed_may : {m : Marked} (handing keeping : Bool) (marked : FieldMarks) (task : TaskTree) (w : Where) → IsSoundTask w.tree task → KnowsHead m w.tree task w.scope → Falls w.scope.next w.scope.names →
     (n f : Name) (a : Access) → (p : IsAimed keeping marked w.tree w.scope.names (bound w n).static_type f) →
     lacks w.tree task w.scope (wanted_of_step w.tree a (field_of (bound w n).static_type f)) ≡ false → MayGo (forms_by handing keeping w.tree task) w n f (mode_in a)
 aimed_may handing keeping marked task w sound h falls n f a p lacking = aimed_reach handing keeping marked task w sound h falls (bound w n).static_type f a p lacking

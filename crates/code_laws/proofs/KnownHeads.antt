@@ -1,16 +1,18 @@
 -- What is known at a place of a task's body, where each region in it has a name or is a part: what the task's head tells
--- of its parameters, what was made behind them, and of which regions partitions are. So what the rules allow may be done.
-use Rattle.std.proofs.Common.{◌≡◌, Bool, List, [], ◌∷◌, None, Some, false, true, refl, ap, sym, subst, ℕ, ◌<◌, ◌≤◌, ◌∙◌, cond, map, arith, ◌⊎◌, inl, inr, ⊎_elim}
+-- of its parameters, what was made behind them, what began as parts, and of which regions partitions are. So what the rules allow may be done.
+use Rattle.std.proofs.Common.{◌≡◌, Bool, List, [], ◌∷◌, None, Option, Some, false, true, refl, ap, sym, subst, ℕ, ◌<◌, ◌≤◌, ◌∙◌, cond, map, arith, ◌⊎◌, inl, inr, ⊎_elim}
 use Rattle.std.specs.Prelude.{length, ◌&&◌}
 use Rattle.std.specs.List.{Contains, list_all}
 use Rattle.std.proofs.lemmas.Bool.{and_parts, not-false, or_parts}
-use Rattle.regent_tree.proofs.Members.{Contains-from_Has, Has, Has-append_cases, Has-from_Contains}
+use Rattle.std.proofs.lemmas.Option.{none-some, same_Some}
+use Rattle.regent_tree.proofs.Members.{Contains-from_Has, Has, Has-append_cases, Has-append_left, Has-append_right, Has-from_Contains}
 use Rattle.regent_tree.specs.Accesses.{space_in}
 use Rattle.regent_tree.specs.Lookup.{has_field}
-use Rattle.regent_tree.specs.Scopes.{Scope, knowing, known_of_clause, known_of_clauses, known_of_params, known_of_type, past, scope_of, with_name}
+use Rattle.regent_tree.specs.Scopes.{Scope, known_of_clause, known_of_clauses, known_of_params, known_of_type, scope_of}
 use Rattle.regent_tree.specs.StaticTypes.{Reach, field_place, place_in}
 use Rattle.regent_tree.specs.Syntax.{Expression, Name, TaskTree, Tree}
 use Rattle.regent_tree.specs.Typing.{type_of_element}
+use Rattle.regent_tree.specs.declared.facts.Colour.{Colour}
 use Rattle.regent_tree.specs.declared.facts.Known.{Known}
 use Rattle.regent_tree.specs.declared.facts.Known.TheVariants.{Apart, Made, PartOf, Within}
 use Rattle.regent_tree.specs.declared.facts.Term.{Term}
@@ -27,8 +29,10 @@ use Rattle.check_rules.specs.types.Declarations.{params_bound}
 use Rattle.check_rules.specs.types.TypedForms.{field_of}
 use Rattle.expression_laws.proofs.Params.{known_clause, known_param, none_has}
 use Rattle.local_form.specs.LocalForm.{Marked}
-use Rattle.code_laws.specs.Handing.{forms_by, takes_by}
-use Rattle.code_laws.specs.Privileges.{IsKnownBehind}
+use Rattle.code_laws.specs.Above.{above_in, cut_told, first_told, whole_of, whole_told}
+use Rattle.code_laws.specs.Handing.{forms_by, takes_by, told_in}
+use Rattle.code_laws.specs.Privileges.{BeganAsPart, IsKnownBehind}
+use Rattle.code_laws.proofs.Told.{ToldUpTo, cut_behind, told_left, told_none, told_right}
 use Rattle.check_laws.specs.SoundScopes.{Falls}
 use Rattle.code_rules.specs.Slots.{Where}
 use Rattle.code_laws.specs.Simple.{IsRegion, a_region_type, term_in}
@@ -37,7 +41,7 @@ use Rattle.regent_tree.specs.declared.typing.Bound.{Bound}
 use Rattle.regent_tree.specs.declared.typing.StaticType.TheVariants.{Partition as partition_type}
 use Rattle.statement_laws.specs.Steady.{ArePlaced}
 use Rattle.value_laws.specs.Spaces.{AreSpaced}
-use Rattle.code_laws.proofs.LocalValues.{AreAmong, found_among, value_other}
+use Rattle.code_laws.proofs.LocalValues.{AreAmong, value_other}
 use Rattle.code_laws.specs.Taking.{MayDo, pairs_in}
 use Rattle.code_laws.proofs.DeclaredNeeds.{none_made, none_within, pair_listed, region_param}
 use Rattle.code_laws.proofs.LocalNames.{AllKept, IsKept, kept_partition, kept_region, kept_scalar, kept_value, region_of_number}
@@ -55,10 +59,29 @@ pub record IsPair (tree : Tree) (task : TaskTree) (a b : Term) : Type 0 where
   pub high : upper < length task.params
   pub among : Contains (pairs_in (scope_of tree task).known) (lower, upper)
 
+-- a variable that began as a part: no other part is told of it
+pub record IsPiece (m : Marked) (task : TaskTree) (s : Scope) (a b : Term) : Type 0 where
+  pub own : ℕ
+  pub cut : ℕ
+  pub colour : Colour
+  pub is_lower : a ≡ place.Name own
+  pub is_upper : b ≡ place.Child cut colour
+  pub high : length task.params ≤ own
+  pub low : own < s.next
+  pub told : first_told (cut_told own) s.known ≡ Some cut
+  pub marked : m.parts ≡ true
+
+-- a region that was made is behind the parameters, and began as no part
+pub record IsMadeHere (task : TaskTree) (s : Scope) (i : ℕ) : Type 0 where
+  pub high : length task.params ≤ i
+  pub low : i < s.next
+  pub whole : first_told (cut_told i) s.known ≡ None
+
 -- A partition's number isn't used again, and the name that is bound with it, if it is in scope still, has its type.
 pub record IsPartHere (s : Scope) (p r : ℕ) (d : Bool) : Type 0 where
   pub low : p < s.next
   pub one : (b : Bound) → Has s.names b → b.number ≡ p → b.static_type ≡ partition_type d r p
+  pub told : first_told (whole_told p) s.known ≡ Some r
 
 abbrev pub IsToldHere : Scope → Known → Type 0
 IsToldHere s (PartOf p r d) = IsPartHere s p r d
@@ -67,34 +90,90 @@ IsToldHere s (Apart a b) = Unit {0}
 IsToldHere s (Made i) = Unit {0}
 
 -- At a place of a task's body nothing is known but what its head tells of its parameters, which regions were made behind
--- them, and of which regions partitions are. Names that are bound there are behind them too.
-pub record KnowsFacts (tree : Tree) (task : TaskTree) (s : Scope) : Type 0 where
-  pub within : (a b : Term) → Contains s.known (Within a b) → IsPair tree task a b
-  pub made : (i : ℕ) → Contains s.known (Made i) → length task.params ≤ i
+-- them, which began as parts, and of which regions partitions are, of each in scope. Names that are bound there are behind them too.
+pub record KnowsFacts (m : Marked) (tree : Tree) (task : TaskTree) (s : Scope) : Type 0 where
+  pub within : (a b : Term) → Contains s.known (Within a b) → IsPair tree task a b ⊎ IsPiece m task s a b
+  pub made : (i : ℕ) → Contains s.known (Made i) → IsMadeHere task s i
   pub parts : (k : Known) → Has s.known k → IsToldHere s k
+  pub cuts : (b : Bound) → Has s.names b → (k : Known) → Has (known_of_type b.static_type) k → Has s.known k
   pub next : length task.params ≤ s.next
 
--- Also the types of all names there have arguments as their field spaces declare, and each name has its place.
-pub record KnowsHead (tree : Tree) (task : TaskTree) (s : Scope) : Type 0 where
-  pub facts : KnowsFacts tree task s
+-- Also the types of all names there have arguments as their field spaces declare, each name has its place, and what is told
+-- there is the first that is told in the body.
+pub record KnowsHead (m : Marked) (tree : Tree) (task : TaskTree) (s : Scope) : Type 0 where
+  pub facts : KnowsFacts m tree task s
   pub spaced : AreSpaced tree s.names
   pub placed : ArePlaced s.names
+  pub told : ToldUpTo (told_in tree task) s
 
-abbrev number_in : Term → ℕ
+abbrev pub number_in : Term → ℕ
 number_in (place.Name i) = i
 number_in (place.Child p c) = 0
 
-pub known_behind : (tree : Tree) (task : TaskTree) (s : Scope) → KnowsHead tree task s → IsKnownBehind tree task s.known
+abbrev cut_in : Term → ℕ
+cut_in (place.Name i) = 0
+cut_in (place.Child p c) = p
+
+abbrev pub IsName : Term → Type 0
+IsName (place.Name i) = Unit {0}
+IsName (place.Child p c) = ⊥
+
+module _ (total : List Known) where
+  -- what is told of a place is the first that is told in the body
+  told_here : {s : Scope} → ToldUpTo total s → (f : Known → Option ℕ) (n : ℕ) → first_told f s.known ≡ Some n → first_told f total ≡ Some n
+  told_here {s = s} up f n e = ap (first_told f) up.known ∙ told_left f s.known up.more n e
+
+  -- a region that was made began as no part
+  pub made_above_none : {m : Marked} {tree : Tree} {task : TaskTree} {s : Scope} → KnowsFacts m tree task s → ToldUpTo total s → (i : ℕ) → Contains s.known (Made i) →
+      above_in total i ≡ None
+  made_above_none {s = s} facts up i c =
+      let made = facts.made i c in
+      ap (whole_of total) (ap (first_told (cut_told i)) up.known ∙ told_right (cut_told i) s.known up.more made.whole
+      ∙ told_none (cut_told i) up.more (λ k g. cut_behind s.next i k made.low (up.behind k g)))
+
+  -- within which region a region began, by what is told of it
+  pub above_by : {m : Marked} {tree : Tree} {task : TaskTree} {s : Scope} → KnowsFacts m tree task s → ToldUpTo total s → (i p r : ℕ) (d : Bool) →
+      first_told (cut_told i) s.known ≡ Some p → Contains s.known (PartOf p r d) → above_in total i ≡ Some r
+  above_by {s = s} facts up i p r d cut c =
+      ap (whole_of total) (told_here up (cut_told i) p cut)
+      ∙ told_here up (whole_told p) r (facts.parts (PartOf p r d) (Has-from_Contains s.known (PartOf p r d) c)).told
+
+pub above_told : {m : Marked} {tree : Tree} {task : TaskTree} {s : Scope} → KnowsHead m tree task s → (i p r : ℕ) (d : Bool) →
+    first_told (cut_told i) s.known ≡ Some p → Contains s.known (PartOf p r d) → above_in (told_in tree task) i ≡ Some r
+above_told {tree = tree} {task = task} h i p r d cut c = above_by (told_in tree task) h.facts h.told i p r d cut c
+
+-- what is known of a region that began as a part of one
+piece_known : {m : Marked} {tree : Tree} {task : TaskTree} {s : Scope} → KnowsHead m tree task s → (i r : ℕ) → length task.params ≤ i →
+    above_in (told_in tree task) i ≡ Some r → BeganAsPart s.known i r
+piece_known {tree = tree} {task = task} {s = s} h i r high above = record {
+  upper = λ b c. ⊎_elim
+      (λ p. let low = p.low in let same : p.lower ≡ i = sym (ap number_in p.is_lower) in absurd (omega (arith, low, high, same)))
+      (λ p.
+      let same : p.own ≡ i = sym (ap number_in p.is_lower) in
+      let cut : first_told (cut_told i) s.known ≡ Some p.cut = subst (λ n. first_told (cut_told n) s.known ≡ Some p.cut) same p.told in (
+        p.cut,
+        p.colour,
+        p.is_upper,
+        λ q d k. same_Some q r (sym (above_told h i p.cut q d cut k) ∙ above),
+      )) (h.facts.within (place.Name i) b c);
+  made = λ c. absurd (none-some r (sym (made_above_none (told_in tree task) h.facts h.told i c) ∙ above));
+}
+
+pub known_behind : {m : Marked} (tree : Tree) (task : TaskTree) (s : Scope) → KnowsHead m tree task s → IsKnownBehind tree task s.known
 known_behind tree task s h = record {
-  within = λ i b low c.
-      let p = h.facts.within (place.Name i) b c in
+  within = λ i b low c. ⊎_elim
+      (λ p.
       let same : p.lower ≡ i = sym (ap number_in p.is_lower) in
-      (p.upper, p.is_upper, p.high, subst (λ k. Contains (pairs_in (scope_of tree task).known) (k, p.upper)) same p.among);
-  made = h.facts.made;
+      (p.upper, p.is_upper, p.high, subst (λ k. Contains (pairs_in (scope_of tree task).known) (k, p.upper)) same p.among))
+      (λ p. let high = p.high in let same : p.own ≡ i = sym (ap number_in p.is_lower) in absurd (omega (arith, low, high, same)))
+      (h.facts.within (place.Name i) b c);
+  made = λ i c. (h.facts.made i c).high;
+  parts = λ i r high above. piece_known h i r high above;
+  lower = λ p c b k. ⊎_elim (λ d. absurd (subst IsName (sym d.is_lower) tt)) (λ d. absurd (subst IsName (sym d.is_lower) tt)) (h.facts.within (place.Child p c) b k);
 }
 
 -- what the rules allow of a region with a number may be done with it
-pub may_touch : (handing : Bool) (tree : Tree) (task : TaskTree) (s : Scope) → IsSoundTask tree task → KnowsHead tree task s → (i field : ℕ) (a : Access) →
+pub may_touch : {m : Marked} (handing : Bool) (tree : Tree) (task : TaskTree) (s : Scope) → IsSoundTask tree task → KnowsHead m tree task s → (i field : ℕ) (a : Access) →
     may_do (rights_declared tree task) s.known (wanting field a (place.Name i)) ≡ true → MayDo (takes_by handing tree task) (place.Name i) field (mode_in a)
 may_touch false tree task s sound h i field a e = tt
 may_touch true tree task s sound h i field access.Read e = (allowed_is_needed tree task s.known sound (known_behind tree task s h) i field).reads e
@@ -102,7 +181,7 @@ may_touch true tree task s sound h i field access.Write e = (allowed_is_needed t
 may_touch true tree task s sound h i field (access.Reduce o) e = (allowed_is_needed tree task s.known sound (known_behind tree task s h) i field).reduces o e
 
 -- so of a region that a name has
-pub kept_may : (handing keeping : Bool) (tree : Tree) (task : TaskTree) (s : Scope) → IsSoundTask tree task → KnowsHead tree task s → (m : Marked) (bs : List Bound) (n : Name) (i : ℕ) (t : StaticType) →
+pub kept_may : {o : Marked} (handing keeping : Bool) (tree : Tree) (task : TaskTree) (s : Scope) → IsSoundTask tree task → KnowsHead o tree task s → (m : Marked) (bs : List Bound) (n : Name) (i : ℕ) (t : StaticType) →
     IsKept keeping m bs n i t → IsRegion t → (field : ℕ) (a : Access) → may_do (rights_declared tree task) s.known (wanting field a (term_in t)) ≡ true →
     MayDo (takes_by handing tree task) (term_in t) field (mode_in a)
 kept_may handing keeping tree task s sound h m bs n i t (kept_scalar _ k) r field a e = absurd (simple_other t (scalar_simple t k) r)
@@ -120,7 +199,7 @@ granted_at tree task s _ e f a (a_region_type k sp args r) there lacking =
     (and_parts (may_do (rights_declared tree task) s.known want) true (not-false _ all)).0
 
 -- so of each region that a pointer may go to
-pub reach_may : (handing keeping : Bool) (task : TaskTree) (w : Where) → IsSoundTask w.tree task → KnowsHead w.tree task w.scope → Falls w.scope.next w.scope.names →
+pub reach_may : {m : Marked} (handing keeping : Bool) (task : TaskTree) (w : Where) → IsSoundTask w.tree task → KnowsHead m w.tree task w.scope → Falls w.scope.next w.scope.names →
     (field sp : ℕ) (a : Access) (rs : List Reach) → AreAmong w.scope.names sp rs →
     list_all (may_do (rights_declared w.tree task) w.scope.known) (map (wanting field a) (regions_named rs)) ≡ true →
     MayReach (forms_by handing keeping w.tree task) w rs field (mode_in a)
@@ -139,12 +218,6 @@ IsMade (Made i) = Unit {0}
 IsMade (Within a b) = ⊥
 IsMade (Apart a b) = ⊥
 IsMade (PartOf p r d) = ⊥
-
-abbrev made_in : Known → ℕ
-made_in (Made i) = i
-made_in (Within a b) = 0
-made_in (Apart a b) = 0
-made_in (PartOf p r d) = 0
 
 abbrev IsApart : Known → Type 0
 IsApart (Apart a b) = Unit {0}
@@ -171,14 +244,25 @@ upper_term (Made i) = place.Name i
 upper_term (PartOf p r d) = place.Name r
 
 -- where a body begins, by what the types of its parameters tell
-pub head_begins : (tree : Tree) (t : TaskTree) → IsSoundTask tree t →
+-- what each parameter's type tells is known
+among_params : (bs : List Bound) (b : Bound) → Has bs b → (k : Known) → Has (known_of_type b.static_type) k → Has (known_of_params bs) k
+among_params [] b h k g = absurd h
+among_params (c ∷ bs) b (inl e) k g =
+    Has-append_right (known_of_params bs) (known_of_type c.static_type) k (subst (λ (b : Bound). Has (known_of_type b.static_type) k) (sym e) g)
+among_params (c ∷ bs) b (inr h) k g = Has-append_left (known_of_params bs) (known_of_type c.static_type) k (among_params bs b h k g)
+
+pub params_known : (tree : Tree) (t : TaskTree) (b : Bound) → Has (scope_of tree t).names b → (k : Known) → Has (known_of_type b.static_type) k → Has (scope_of tree t).known k
+params_known tree t b h k g =
+    Has-append_left (known_of_params (scope_of tree t).names) (known_of_clauses t.params t.clauses) k (among_params (scope_of tree t).names b h k g)
+
+pub head_begins : {m : Marked} (tree : Tree) (t : TaskTree) → IsSoundTask tree t →
     ((b : Bound) → Has (scope_of tree t).names b → (k : Known) → Has (known_of_type b.static_type) k → IsToldHere (scope_of tree t) k) →
-    KnowsFacts tree t (scope_of tree t)
+    KnowsFacts m tree t (scope_of tree t)
 head_begins tree t sound told = record {
   within = λ a b c. ⊎_elim
       (λ p. let d = known_param (scope_of tree t).names (Within a b) p in absurd (none_within d.0.static_type (Within a b) d.2 a b refl))
       (λ p. let d = known_clause t.params t.clauses (Within a b) p in
-      by_clause a b d.0 (none_has (misdeclares tree (params_bound tree t.params)) t.clauses d.0 sound.clauses d.1) d.2 (Has-from_Contains (scope_of tree t).known (Within a b) c))
+      inl (by_clause a b d.0 (none_has (misdeclares tree (params_bound tree t.params)) t.clauses d.0 sound.clauses d.1) d.2 (Has-from_Contains (scope_of tree t).known (Within a b) c)))
       (Has-append_cases (known_of_params (scope_of tree t).names) (known_of_clauses t.params t.clauses) (Within a b) (Has-from_Contains (scope_of tree t).known (Within a b) c));
   made = λ i c. ⊎_elim
       (λ p. let d = known_param (scope_of tree t).names (Made i) p in absurd (none_made d.0.static_type (Made i) d.2 i refl))
@@ -188,6 +272,7 @@ head_begins tree t sound told = record {
       (λ p. let d = known_param (scope_of tree t).names k p in told d.0 d.1 k d.2)
       (λ p. let d = known_clause t.params t.clauses k p in by_kind k d.0 d.2)
       (Has-append_cases (known_of_params (scope_of tree t).names) (known_of_clauses t.params t.clauses) k c);
+  cuts = params_known tree t;
   next = omega (arith);
 }
   where
@@ -234,93 +319,4 @@ head_begins tree t sound told = record {
 -- the names at a place stand for what their marks say, and no more is known there
 pub record IsReady (keeping : Bool) (tree : Tree) (task : TaskTree) (m : Marked) (s : Scope) : Type 0 where
   pub names : AllKept keeping m s.names
-  pub head : KnowsHead tree task s
-
--- a fact that is told at a place is told behind it, where names that came have numbers of their own
-told_behind : (s u : Scope) → s.next ≤ u.next → ((b : Bound) → Has u.names b → Has s.names b ⊎ (b.number ≡ s.next)) → (k : Known) → IsToldHere s k → IsToldHere u k
-told_behind s u less names (Within a b) told = tt
-told_behind s u less names (Apart a b) told = tt
-told_behind s u less names (Made i) told = tt
-told_behind s u less names (PartOf p r d) told =
-    let low = told.low in record {
-      low = omega (arith, low, less);
-      one = λ b h e. ⊎_elim (λ old. told.one b old e) (λ new. absurd (omega (arith, low, new, e))) (names b h);
-    }
-
--- behind a place nothing more is known but that a region was made there
-pub head_behind : (tree : Tree) (task : TaskTree) (s u : Scope) → KnowsFacts tree task s → s.next ≤ u.next →
-    ((b : Bound) → Has u.names b → Has s.names b ⊎ (b.number ≡ s.next)) →
-    ((k : Known) → Has u.known k → Has s.known k ⊎ (k ≡ Made s.next)) → KnowsFacts tree task u
-head_behind tree task s u h less names known = record {
-  within = λ a b c. ⊎_elim
-      (λ old. h.within a b (Contains-from_Has s.known (Within a b) old))
-      (λ new. absurd (subst IsMade (sym new) tt)) (known (Within a b) (Has-from_Contains u.known (Within a b) c));
-  made = λ i c. ⊎_elim
-      (λ old. h.made i (Contains-from_Has s.known (Made i) old))
-      (λ new. let l = h.next in let same : i ≡ s.next = ap made_in new in omega (arith, l, same)) (known (Made i) (Has-from_Contains u.known (Made i) c));
-  parts = λ k c. ⊎_elim (λ old. told_behind s u less names k (h.parts k old)) (λ new. subst (IsToldHere u) (sym new) tt) (known k c);
-  next = let l = h.next in omega (arith, l, less);
-}
-
--- behind a block the names are those before it
-told_past : (s inner : Scope) → ((b : Bound) → Has s.names b → Has inner.names b) → (k : Known) → IsToldHere inner k → IsToldHere (past s inner) k
-told_past s inner names (Within a b) told = tt
-told_past s inner names (Apart a b) told = tt
-told_past s inner names (Made i) told = tt
-told_past s inner names (PartOf p r d) told = record { low = told.low; one = λ b h e. told.one b (names b h) e }
-
-pub head_past : (tree : Tree) (task : TaskTree) (s inner : Scope) → ((b : Bound) → Has s.names b → Has inner.names b) → KnowsFacts tree task inner →
-    KnowsFacts tree task (past s inner)
-head_past tree task s inner names h =
-    record { within = h.within; made = h.made; parts = λ k c. told_past s inner names k (h.parts k c); next = h.next }
-
--- one more name has a number of its own
-one_more : (s : Scope) (n : Name) (t : StaticType) (by_loop : Bool) (b : Bound) → Has (with_name s n t by_loop).names b → Has s.names b ⊎ (b.number ≡ s.next)
-one_more s n t by_loop b (inl same) = inr (sym (ap (λ (c : Bound). c.number) same))
-one_more s n t by_loop b (inr h) = inl h
-
-pub head_looping : (tree : Tree) (task : TaskTree) (s : Scope) (n : Name) (t : StaticType) → KnowsFacts tree task s → KnowsFacts tree task (with_name s n t true)
-head_looping tree task s n t h = head_behind tree task s (with_name s n t true) h (omega (arith)) (one_more s n t true) (λ k a. inl a)
-
--- one more name, with which nothing is known, or that a region was made
-pub head_named : (tree : Tree) (task : TaskTree) (s : Scope) (n : Name) (t : StaticType) (more : List Known) → KnowsFacts tree task s → more ≡ [] →
-    KnowsFacts tree task (knowing (with_name s n t false) more)
-head_named tree task s n t more h none = head_behind tree task s (knowing (with_name s n t false) more) h (omega (arith)) (one_more s n t false)
-    (λ k a. ⊎_elim (λ old. inl old) (λ new. absurd (subst (λ ks. Has ks k) none new)) (Has-append_cases s.known more k a))
-
-pub head_made : (tree : Tree) (task : TaskTree) (s : Scope) (n : Name) (t : StaticType) → KnowsFacts tree task s →
-    KnowsFacts tree task (knowing (with_name s n t false) (Made s.next ∷ []))
-head_made tree task s n t h = head_behind tree task s (knowing (with_name s n t false) (Made s.next ∷ [])) h (omega (arith)) (one_more s n t false)
-    (λ k a. ⊎_elim (λ old. inl old) (λ new. ⊎_elim (λ same. inr (sym same)) (λ none. absurd none) new) (Has-append_cases s.known (Made s.next ∷ []) k a))
-
--- or one of a partition, of which is known of which region it is
-pub head_cut : (tree : Tree) (task : TaskTree) (s : Scope) (n : Name) (d : Bool) (r : ℕ) → Falls s.next s.names → KnowsFacts tree task s →
-    KnowsFacts tree task (knowing (with_name s n (partition_type d r s.next) false) (PartOf s.next r d ∷ []))
-head_cut tree task s n d r falls h = record {
-  within = λ a b c. ⊎_elim
-      (λ old. h.within a b (Contains-from_Has s.known (Within a b) old))
-      (λ new. ⊎_elim (λ same. absurd (subst IsPartFact same tt)) (λ none. absurd none) new) (cases (Within a b) (Has-from_Contains u.known (Within a b) c));
-  made = λ i c. ⊎_elim
-      (λ old. h.made i (Contains-from_Has s.known (Made i) old))
-      (λ new. ⊎_elim (λ same. absurd (subst IsPartFact same tt)) (λ none. absurd none) new) (cases (Made i) (Has-from_Contains u.known (Made i) c));
-  parts = λ k c. ⊎_elim
-      (λ old. told_behind s u (omega (arith)) (one_more s n t false) k (h.parts k old))
-      (λ new. ⊎_elim (λ same. subst (IsToldHere u) same own) (λ none. absurd none) new) (cases k c);
-  next = let l = h.next in omega (arith, l);
-}
-  where
-    t : StaticType
-    t = partition_type d r s.next
-
-    u : Scope
-    u = knowing (with_name s n t false) (PartOf s.next r d ∷ [])
-
-    cases : (k : Known) → Has u.known k → Has s.known k ⊎ Has (PartOf s.next r d ∷ []) k
-    cases k c = Has-append_cases s.known (PartOf s.next r d ∷ []) k c
-
-    typed : (b : Bound) → Has u.names b → b.number ≡ s.next → b.static_type ≡ t
-    typed b (inl same) e = sym (ap (λ (c : Bound). c.static_type) same)
-    typed b (inr old) e = let less = (found_among s.next s.names b falls old).1 in absurd (omega (arith, less, e))
-
-    own : IsPartHere u s.next r d
-    own = record { low = omega (arith); one = typed }
+  pub head : KnowsHead m tree task s

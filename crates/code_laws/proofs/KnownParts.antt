@@ -1,12 +1,12 @@
--- What is derived of a part at a place of a task's body is derived of its whole, where nothing is known to lie within a
--- part: so what the rules allow of it may be done.
-use Rattle.std.proofs.Common.{◌≡◌, ℕ, ◌<◌, ◌≤◌, Bool, List, [], ◌∷◌, true, ◌⊎◌, inl, inr, refl, ap, sym, subst, ◌∙◌, ⊎_elim, arith}
+-- What is derived of a part at a place of a task's body is derived of its whole: so what the rules allow of it may be done. And
+-- within what a region with a name lies.
+use Rattle.std.proofs.Common.{◌≡◌, ℕ, ◌<◌, ◌≤◌, Bool, List, [], ◌∷◌, Some, true, false, ◌⊎◌, inl, inr, refl, ap, sym, subst, ◌∙◌, ⊎_elim, arith}
 use Rattle.std.specs.Prelude.{length, ◌&&◌, ◌||◌, ◌==◌}
 use Rattle.std.specs.List.{Contains, list_any}
-use Rattle.std.proofs.lemmas.Bool.{and_from, and_parts, cases_lt, or_cases, or_left, or_right}
+use Rattle.std.proofs.lemmas.Bool.{and_from, and_parts, or_cases, or_left, or_right}
 use Rattle.constraint_check.proofs.Table.{is_subregion-derivable}
 use Rattle.constraint_check.specs.Derivations.{IsBelow, child, same, through, told_within, variable}
-use Rattle.regent_tree.proofs.Members.{Has, Has-from_Contains}
+use Rattle.regent_tree.proofs.Members.{Contains-from_Has, Has, Has-from_Contains, Has-map}
 use Rattle.regent_tree.specs.Facts.{is_subregion}
 use Rattle.regent_tree.specs.Rights.{gives, is_held, same_access}
 use Rattle.regent_tree.specs.Scopes.{Scope, scope_of}
@@ -23,10 +23,13 @@ use Rattle.regent_tree.specs.declared.rights.Right.{Right}
 use Rattle.regent_tree.specs.declared.typing.Bound.{Bound}
 use Rattle.regent_tree.specs.declared.typing.StaticType.TheVariants.{Partition as partition_type}
 use Rattle.check_rules.specs.rules.Privileges.{made_above, may_do, wanting}
-use Rattle.check_rules.specs.scopes.Sound.{IsSoundTask}
-use Rattle.code_laws.specs.Taking.{known_of_pairs, pairs_in}
-use Rattle.code_laws.proofs.KnownHeads.{KnowsHead, known_behind}
-use Rattle.code_laws.proofs.Privileges.{part_of}
+use Rattle.code_laws.specs.Above.{cut_told, first_told}
+use Rattle.code_laws.specs.Handing.{taking_of}
+use Rattle.code_laws.specs.Steps.{Taking}
+use Rattle.code_laws.specs.Taking.{LiesUp, known_of_pairs, pairs_in, up_itself, up_part}
+use Rattle.code_laws.proofs.Typing.{no_way}
+use Rattle.local_form.specs.LocalForm.{Marked}
+use Rattle.code_laws.proofs.KnownHeads.{IsPair, IsPiece, KnowsHead, above_told}
 
 any_more : {A : Type 0} (p q : A → Bool) (xs : List A) → ((x : A) → p x ≡ true → q x ≡ true) → list_any p xs ≡ true → list_any q xs ≡ true
 any_more p q [] more e = e
@@ -45,36 +48,150 @@ abbrev partition_in : Term → ℕ
 partition_in (place.Name i) = 0
 partition_in (place.Child p c) = p
 
-module _ (tree : Tree) (task : TaskTree) (s : Scope) (head : KnowsHead tree task s) where
-  -- within names lie names alone
-  pub names_below : (a b : Term) → IsBelow s.known a b → (i : ℕ) → a ≡ place.Name i → (j : ℕ) × (b ≡ place.Name j)
-  names_below a _ same i e = (i, e)
-  names_below a b (told_within c) i e = let p = head.facts.within a b c in (p.upper, p.is_upper)
-  names_below a b (through p q) i e = let m = names_below a _ p i e in names_below _ b q m.0 m.1
-  names_below _ b (child c) i e = absurd (subst IsName (sym e) tt)
-  names_below a b (variable c) i e = absurd (subst IsName (sym (head.facts.within a b c).is_upper) tt)
+module _ {m : Marked} (tree : Tree) (task : TaskTree) (s : Scope) (head : KnowsHead m tree task s) where
+  abbrev y : Taking
+  y = taking_of tree task
 
-  -- nothing is known of a region that was made behind the parameters
-  below_made : (a b : Term) → IsBelow s.known a b → (i : ℕ) → a ≡ place.Name i → length task.params ≤ i → b ≡ place.Name i
-  below_made a _ same i e l = e
-  below_made a b (told_within c) i e l =
-      let p = head.facts.within a b c in
-      let low = p.low in
-      let number : p.lower ≡ i = ap number_in (sym p.is_lower ∙ e) in
-      absurd (omega (arith, l, low, number))
-  below_made a b (through p q) i e l = below_made _ b q i (below_made a _ p i e l) l
-  below_made _ b (child c) i e l = absurd (subst IsName (sym e) tt)
-  below_made a b (variable c) i e l = absurd (subst IsName (sym (head.facts.within a b c).is_upper) tt)
+  not_child : (a b : Term) (p : ℕ) (c : Colour) → IsPair tree task a b ⊎ IsPiece m task s a b → a ≡ place.Child p c → ⊥
+  not_child a b p c (inl d) e = subst IsName (sym d.is_lower ∙ e) tt
+  not_child a b p c (inr d) e = subst IsName (sym d.is_lower ∙ e) tt
 
-  -- a region lies within itself, or both are parameters' of which it follows
-  pub name_within : IsSoundTask tree task → (i j : ℕ) → is_subregion s.known (place.Name i) (place.Name j) ≡ true →
-      (j ≡ i) ⊎ ((i < length task.params) × (j < length task.params)
-      × (is_subregion (known_of_pairs (pairs_in (scope_of tree task).known)) (place.Name i) (place.Name j) ≡ true))
-  name_within sound i j e = ⊎_elim
-      (λ (low : i < length task.params). let p = part_of tree task sound s.known (known_behind tree task s head) i j low e in inr (low, p.0, p.1))
-      (λ (high : length task.params ≤ i).
-      inl (ap number_in (below_made (place.Name i) (place.Name j) ((is_subregion-derivable s.known (place.Name i) (place.Name j)).0 e).below i refl high)))
-      (cases_lt i (length task.params))
+  upper_name : m.parts ≡ false → (a b : Term) → IsPair tree task a b ⊎ IsPiece m task s a b → (j : ℕ) × (b ≡ place.Name j)
+  upper_name none a b (inl p) = (p.upper, p.is_upper)
+  upper_name none a b (inr p) = absurd (no_way (sym p.marked ∙ none))
+
+  -- names lie within names alone, where no variable begins as a part
+  pub names_below : m.parts ≡ false → (a b : Term) → IsBelow s.known a b → (i : ℕ) → a ≡ place.Name i → (j : ℕ) × (b ≡ place.Name j)
+  names_below none a _ same i e = (i, e)
+  names_below none a b (told_within c) i e = upper_name none a b (head.facts.within a b c)
+  names_below none a b (through p q) i e = let n = names_below none a _ p i e in names_below none _ b q n.0 n.1
+  names_below none _ b (child c) i e = absurd (subst IsName (sym e) tt)
+  names_below none a b (variable c) i e = upper_name none a b (head.facts.within a b c)
+
+  -- parameters of which it follows that the one lies within the other
+  abbrev pub IsPaired : ℕ → ℕ → Type 0
+  IsPaired i j = (i < length task.params) × (j < length task.params)
+      × (is_subregion (known_of_pairs (pairs_in (scope_of tree task).known)) (place.Name i) (place.Name j) ≡ true)
+
+  -- within what a region with a name lies: within one within which it began, or a parameter's within which that lies, or a part
+  data Lands (i : ℕ) : Term → Type 0 where
+    lands_name : (k : ℕ) → LiesUp y i k → Lands i (place.Name k)
+    lands_pair : (k j : ℕ) → LiesUp y i k → IsPaired k j → Lands i (place.Name j)
+    lands_part : (k p : ℕ) (c : Colour) → LiesUp y i k → length task.params ≤ k → first_told (cut_told k) s.known ≡ Some p → m.parts ≡ true → Lands i (place.Child p c)
+
+  -- and a part: within itself, or within what its whole lies within
+  data Over (p : ℕ) (c : Colour) : Term → Type 0 where
+    over_itself : Over p c (place.Child p c)
+    over_whole : (r : ℕ) (d : Bool) (b : Term) → Contains s.known (PartOf p r d) → Lands r b → Over p c b
+
+  abbrev Reach : Term → Term → Type 0
+  Reach (place.Name i) b = Lands i b
+  Reach (place.Child p c) b = Over p c b
+
+  up_then : (i j k : ℕ) → LiesUp y i j → LiesUp y j k → LiesUp y i k
+  up_then i _ k (up_itself _) u = u
+  up_then i j k (up_part _ r _ high above more) u = up_part i r k high above (up_then r j k more u)
+
+  -- a parameter's region began as none
+  low_itself : (i j : ℕ) → LiesUp y i j → i < length task.params → j ≡ i
+  low_itself i _ (up_itself _) low = refl
+  low_itself i j (up_part _ r _ high above more) low = absurd (omega (arith, high, low))
+
+  lands_up : (i j : ℕ) (b : Term) → LiesUp y i j → Lands j b → Lands i b
+  lands_up i j _ u (lands_name k v) = lands_name k (up_then i j k u v)
+  lands_up i j _ u (lands_pair k l v pair) = lands_pair k l (up_then i j k u v) pair
+  lands_up i j _ u (lands_part k p c v high told marked) = lands_part k p c (up_then i j k u v) high told marked
+
+  paired_through : (i j k : ℕ) → IsPaired i j → IsPaired j k → IsPaired i k
+  paired_through i j k a b =
+      let ps = known_of_pairs (pairs_in (scope_of tree task).known) in
+      let p = (is_subregion-derivable ps (place.Name i) (place.Name j)).0 a.2 in
+      let q = (is_subregion-derivable ps (place.Name j) (place.Name k)).0 b.2 in
+      (a.0, b.1, (is_subregion-derivable ps (place.Name i) (place.Name k)).1 (record { below = through p.below q.below; certain = q.certain }))
+
+  lands_paired : (i k j : ℕ) (b : Term) → LiesUp y i k → IsPaired k j → Lands j b → Lands i b
+  lands_paired i k j _ u pair (lands_name l v) = subst (λ n. Lands i (place.Name n)) (sym (low_itself j l v pair.1)) (lands_pair k j u pair)
+  lands_paired i k j _ u pair (lands_pair l n v other) =
+      lands_pair k n u (paired_through k j n pair (subst (λ d. IsPaired d n) (low_itself j l v pair.1) other))
+  lands_paired i k j _ u pair (lands_part l p c v high told marked) =
+      let low = pair.1 in let one = low_itself j l v low in absurd (omega (arith, low, high, one))
+
+  lands_over : (i k p : ℕ) (c : Colour) (b : Term) → LiesUp y i k → length task.params ≤ k → first_told (cut_told k) s.known ≡ Some p → m.parts ≡ true → Over p c b → Lands i b
+  lands_over i k p c _ u high told marked over_itself = lands_part k p c u high told marked
+  lands_over i k p c b u high told marked (over_whole r d _ known lands) =
+      lands_up i r b (up_then i k r u (up_part k r r high (above_told head k p r d told known) (up_itself r))) lands
+
+  name_reach : (i : ℕ) (o b : Term) → Lands i o → Reach o b → Lands i b
+  name_reach i _ b (lands_name k u) more = lands_up i k b u more
+  name_reach i _ b (lands_pair k j u pair) more = lands_paired i k j b u pair more
+  name_reach i _ b (lands_part k p c u high told marked) more = lands_over i k p c b u high told marked more
+
+  part_reach : (p : ℕ) (c : Colour) (o b : Term) → Over p c o → Reach o b → Over p c b
+  part_reach p c _ b over_itself more = more
+  part_reach p c o b (over_whole r d _ known lands) more = over_whole r d b known (name_reach r o b lands more)
+
+  joined : (a o b : Term) → Reach a o → Reach o b → Reach a b
+  joined (place.Name i) o b first more = name_reach i o b first more
+  joined (place.Child p c) o b first more = part_reach p c o b first more
+
+  itself : (a : Term) → Reach a a
+  itself (place.Name i) = lands_name i (up_itself i)
+  itself (place.Child p c) = over_itself
+
+  over_told : (p r : ℕ) (c : Colour) (d : Bool) → Contains s.known (PartOf p r d) → Over p c (place.Name r)
+  over_told p r c d k = over_whole r d (place.Name r) k (lands_name r (up_itself r))
+
+  told_reach : (a b : Term) → IsPair tree task a b ⊎ IsPiece m task s a b → Reach a b
+  told_reach a b (inl p) =
+      let ps = pairs_in (scope_of tree task).known in
+      subst (λ a. Reach a b) (sym p.is_lower) (subst (Lands p.lower) (sym p.is_upper) (lands_pair p.lower p.upper (up_itself p.lower) (
+        p.low,
+        p.high,
+        (is_subregion-derivable (known_of_pairs ps) (place.Name p.lower) (place.Name p.upper)).1 (record {
+          below = told_within (Contains-from_Has (known_of_pairs ps) (Within (place.Name p.lower) (place.Name p.upper))
+              (Has-map (λ (q : ℕ × ℕ). Within (place.Name q.0) (place.Name q.1)) ps (p.lower, p.upper) (Has-from_Contains ps (p.lower, p.upper) p.among)));
+          certain = refl;
+        }),
+      )))
+  told_reach a b (inr p) =
+      subst (λ a. Reach a b) (sym p.is_lower) (subst (Lands p.own) (sym p.is_upper) (lands_part p.own p.cut p.colour (up_itself p.own) p.high p.told p.marked))
+
+  reach : (a b : Term) → IsBelow s.known a b → Reach a b
+  reach a _ same = itself a
+  reach a b (told_within c) = told_reach a b (head.facts.within a b c)
+  reach a b (through p q) = joined a _ b (reach a _ p) (reach _ b q)
+  reach _ _ (child k) = over_told _ _ _ _ k
+  reach a b (variable c) = told_reach a b (head.facts.within a b c)
+
+  -- a region began within what lies within another, or is that
+  pub record Began (i j : ℕ) : Type 0 where
+    pub high : length task.params ≤ i
+    pub whole : ℕ
+    pub above : y.above i ≡ Some whole
+    pub upper : ℕ
+    pub up : LiesUp y whole upper
+    pub ends : (upper ≡ j) ⊎ IsPaired upper j
+
+  -- a region lies within itself, both are parameters' of which it follows, or it began within such
+  abbrev pub IsWithin : ℕ → ℕ → Type 0
+  IsWithin i j = (j ≡ i) ⊎ (IsPaired i j ⊎ Began i j)
+
+  by_name : (i j : ℕ) → LiesUp y i j → IsWithin i j
+  by_name i _ (up_itself _) = inl refl
+  by_name i j (up_part _ r _ high above up) = inr (inr (record { high = high; whole = r; above = above; upper = j; up = up; ends = inl refl }))
+
+  by_pair : (i k j : ℕ) → LiesUp y i k → IsPaired k j → IsWithin i j
+  by_pair i _ j (up_itself _) pair = inr (inl pair)
+  by_pair i k j (up_part _ r _ high above up) pair = inr (inr (record { high = high; whole = r; above = above; upper = k; up = up; ends = inr pair }))
+
+  landed : (i : ℕ) (b : Term) → Lands i b → (j : ℕ) → b ≡ place.Name j → IsWithin i j
+  landed i _ (lands_name k u) j e = subst (IsWithin i) (ap number_in e) (by_name i k u)
+  landed i _ (lands_pair k l u pair) j e = subst (IsWithin i) (ap number_in e) (by_pair i k l u pair)
+  landed i _ (lands_part k p c u high told marked) j e = absurd (subst IsName (sym e) tt)
+
+  pub name_within : (i j : ℕ) → is_subregion s.known (place.Name i) (place.Name j) ≡ true → IsWithin i j
+  name_within i j e =
+      landed i (place.Name j) (reach (place.Name i) (place.Name j) ((is_subregion-derivable s.known (place.Name i) (place.Name j)).0 e).below) j refl
 
   -- a part lies within itself, and within what a region lies within of which the partition is
   pub data IsAbove (p : ℕ) (c : Colour) (b : Term) : Type 0 where
@@ -87,7 +204,7 @@ module _ (tree : Tree) (task : TaskTree) (s : Scope) (head : KnowsHead tree task
 
   pub part_below : (a b : Term) → IsBelow s.known a b → (p : ℕ) (c : Colour) → a ≡ place.Child p c → IsAbove p c b
   part_below a _ same p c e = is_same e
-  part_below a b (told_within k) p c e = absurd (subst IsName (sym (head.facts.within a b k).is_lower ∙ e) tt)
+  part_below a b (told_within k) p c e = absurd (not_child a b p c (head.facts.within a b k) e)
   part_below a b (through x y) p c e = onward (part_below a _ x p c e) y (λ d. part_below _ b y p c d)
     where
       onward : {m : Term} → IsAbove p c m → IsBelow s.known m b → (m ≡ place.Child p c → IsAbove p c b) → IsAbove p c b

@@ -3,6 +3,7 @@ pub mod Runs
 pub mod Values
 pub mod Names
 pub mod Pointing
+pub mod Under
 pub mod States
 pub mod Places
 pub mod Counts
@@ -30,6 +31,7 @@ pub mod Cuts
 pub mod FieldCuts
 pub mod Parts
 pub mod Handing
+pub mod Began
 pub mod CallValues
 pub mod CallCuts
 pub mod CallTakes
@@ -60,7 +62,9 @@ pub mod Moving
 pub mod Passing
 pub mod PointerForms
 pub mod Domains
+pub mod PartVariables
 pub mod Differences
+pub mod Begun
 pub mod Statements
 pub mod Segments
 pub mod Tasks
@@ -68,9 +72,11 @@ pub mod Top
 pub mod Typing
 pub mod LocalTypes
 pub mod TypedStatements
+pub mod Told
 pub mod LocalGoals
 pub mod LocalValues
 pub mod Entries
+pub mod NeedsListed
 pub mod Privileges
 pub mod DeclaredNeeds
 pub mod LocalFields
@@ -78,6 +84,7 @@ pub mod LocalNames
 pub mod LocalPlaces
 pub mod LocalSpaced
 pub mod KnownHeads
+pub mod KnownPlaces
 pub mod KnownParts
 pub mod KnownGoals
 pub mod LocalGiven
@@ -85,6 +92,7 @@ pub mod LocalCalls
 pub mod LocalDivided
 pub mod LocalParts
 pub mod LocalPoints
+pub mod LocalSigns
 pub mod LocalSteps
 pub mod LocalElements
 pub mod LocalNulls
@@ -92,7 +100,10 @@ pub mod LocalTaken
 pub mod LocalArguments
 pub mod LocalExpressions
 pub mod LocalVariables
+pub mod LocalSaid
 pub mod LocalCuts
+pub mod LocalBegan
+pub mod LocalPieces
 pub mod LocalDifferences
 pub mod LocalImages
 pub mod LocalStatements

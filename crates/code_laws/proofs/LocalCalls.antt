@@ -44,17 +44,18 @@ use Rattle.code_rules.specs.Instructions.{place_of_task, tasks_of}
 use Rattle.code_rules.specs.Programs.{task_code}
 use Rattle.code_rules.specs.Slots.{Where, bound, typed}
 use Rattle.local_form.specs.LocalForm.{Marked}
-use Rattle.code_laws.specs.Handing.{forms_by}
-use Rattle.code_laws.specs.Pointers.{AllGoBack}
+use Rattle.code_laws.specs.Handing.{forms_by, taking_of}
+use Rattle.code_laws.specs.Pointers.{AllGoToParams}
 use Rattle.code_laws.specs.Simple.{AreRegions, IsRegion, a_region_type, term_in, two_regions}
 use Rattle.code_laws.specs.Steps.{Forms, Taking}
-use Rattle.code_laws.specs.Taking.{MayDo, known_of_pairs, pairs_in}
-use Rattle.code_laws.specs.Arguments.{AreDivided, AreMet, AreParted, IsCutName, IsMet, IsMetAt, IsMetPart, IsPart, IsPartBelow, IsParted, IsPartedAt, name_at, name_of, parent_bound, part_at}
+use Rattle.code_laws.specs.Taking.{MayDo, pairs_in}
+use Rattle.code_laws.specs.Arguments.{AreDivided, AreMet, AreParted, BeganWithin, IsCutName, IsMet, IsMetAt, IsMetPart, IsPart, IsPartBelow, IsParted, IsPartedAt, name_at, name_of, parent_bound, part_at}
 use Rattle.code_laws.specs.Typed.{ArePassed, IsCallable}
 use Rattle.code_laws.proofs.Arguments.{first_region, named_typed, part_is, part_space}
 use Rattle.code_laws.proofs.DeclaredNeeds.{IsDeclared, need_declared, pair_constrained}
 use Rattle.code_laws.proofs.KnownHeads.{KnowsHead, kept_may, may_touch}
-use Rattle.code_laws.proofs.KnownParts.{name_within, names_below, part_below, part_over, whole_may, whole_within}
+use Rattle.code_laws.proofs.KnownParts.{Began, IsPaired, name_within, names_below, part_below, part_over, whole_may, whole_within}
+use Rattle.code_laws.proofs.LocalBegan.{began_within, below_told}
 use Rattle.code_laws.proofs.LocalGiven.{IsGivenAt, IsHandedAt, IsPartAt, handed_at, one_colour, same_name, IsCutBy, child_term}
 use Rattle.code_laws.proofs.LocalNames.{AllKept, IsKept, kept_partition, kept_region, kept_scalar, kept_value, named_kept, parent_among, region_of_number}
 use Rattle.code_laws.proofs.LocalTypes.{simple_other}
@@ -132,8 +133,12 @@ no_name (an_expr e es) (suc k) p at = no_name es k p at
 
 -- ---- a call
 
+-- a part is an argument only where no variable begins as one
+abbrev pub ArePartsApart : Marked → Where → Expressions → Type 0
+ArePartsApart m w args = (k : ℕ) (p : Name × Expression) → part_at args k ≡ Some p → IsCutName w p.0 → m.parts ≡ false
+
 module _ (keeping : Bool) (task : TaskTree) (w : Where) (sound : IsSound w.tree) (sound_task : IsSoundTask w.tree task) (m : Marked)
-    (scope : IsSoundScope w.scope) (names : AllKept keeping m w.scope.names) (head : KnowsHead w.tree task w.scope) where
+    (scope : IsSoundScope w.scope) (names : AllKept keeping m w.scope.names) (head : KnowsHead m w.tree task w.scope) where
   -- the checker's type of an argument that is a name
   pub name_type : (es : Expressions) (k : ℕ) (n : Name) → first_in_args w.tree task w.scope es ≡ None → name_at es k ≡ Some n →
       type_at (known_types w.tree w.scope es) k ≡ (bound w n).static_type
@@ -171,12 +176,13 @@ module _ (keeping : Bool) (task : TaskTree) (w : Where) (sound : IsSound w.tree)
       (parts : IsFlawless w.tree task w.scope (calling n (known_types w.tree w.scope args)))
       (callee_sound : IsSoundTask w.tree (task_named w.tree n))
       (callee_named : (sp i : ℕ) → i < length (space_at w.tree sp).fields → Has (fields_named w.tree sp None) i)
-      (passed : ArePassed (forms_by true keeping w.tree task) w (params_at w.tree w.scope (task_named w.tree n) args) (param_types w.tree (task_named w.tree n)) args) where
+      (passed : ArePassed (forms_by true keeping w.tree task) w (params_at w.tree w.scope (task_named w.tree n) args) (param_types w.tree (task_named w.tree n)) args)
+      (apart : ArePartsApart m w args) where
     abbrev t : TaskTree
     t = task_named w.tree n
 
     abbrev y : Taking
-    y = record { params = length task.params; needs = (task_code w.tree task).needs; within = pairs_in (scope_of w.tree task).known }
+    y = taking_of w.tree task
 
     abbrev ps : List StaticType
     ps = param_types w.tree t
@@ -243,11 +249,11 @@ module _ (keeping : Bool) (task : TaskTree) (w : Where) (sound : IsSound w.tree)
     -- by the numbers of two names
     parted_by : (a b : Name) → is_bound w.scope.names a ≡ true → is_bound w.scope.names b ≡ true → (i j : ℕ) → (bound w a).number ≡ i → (bound w b).number ≡ j →
         is_subregion w.scope.known (term.Name i) (term.Name j) ≡ true →
-        (a ≡ b) ⊎ ((i < length task.params) × (j < length task.params) × (is_subregion (known_of_pairs y.within) (term.Name i) (term.Name j) ≡ true))
+        (a ≡ b) ⊎ (IsPaired w.tree task w.scope head i j ⊎ Began w.tree task w.scope head i j)
     parted_by a b ha hb i j ia jb e = ⊎_elim
         (λ number. inl (same_name w scope.numbers a b ha hb (ia ∙ sym number ∙ sym jb)))
         (λ part. inr part)
-        (name_within w.tree task w.scope head sound_task i j e)
+        (name_within w.tree task w.scope head i j e)
 
     -- where nothing is told, one argument lies within another
     argument_within : (lower upper : Name) (ta tb : StaticType) → IsRegion ta → IsRegion tb → type_at types (place_in t.params lower) ≡ ta →
@@ -275,8 +281,11 @@ module _ (keeping : Bool) (task : TaskTree) (w : Where) (sound : IsSound w.tree)
         let by = parted_by a.name b.name a.there b.there (bound w a.name).number (bound w b.name).number refl refl
         (subst (λ r. is_subregion w.scope.known (term.Name (bound w a.name).number) r ≡ true) kept_b
         (subst (λ r. is_subregion w.scope.known r (term_in tb) ≡ true) kept_a lies)) in
-        let part : (a.name ≡ b.name) ⊎ IsPart y (term_in ta) (term_in tb) = ⊎_elim (λ q. inl q)
-        (λ is. inr (subst (λ r. IsPart y r (term_in tb)) (sym kept_a) (subst (IsPart y (term.Name (bound w a.name).number)) (sym kept_b) is))) by in
+        let found = (found_by_number w.scope.next w.scope.names b.name scope.numbers b.there).0 in
+        let part : (a.name ≡ b.name) ⊎ (IsPart y (term_in ta) (term_in tb) ⊎ BeganWithin y w (term_in ta) (bound w b.name)) = ⊎_elim (λ q. inl q)
+        (λ is. inr (⊎_elim
+        (λ pair. inl (subst (λ r. IsPart y r (term_in tb)) (sym kept_a) (subst (IsPart y (term.Name (bound w a.name).number)) (sym kept_b) pair)))
+        (λ began. inr (began_within task w head scope.numbers (bound w a.name).number (bound w b.name).number (term_in ta) (bound w b.name) kept_a found kept_b began)) is)) by in
         parted_names keeping y w args p (subst (λ i. IsParted y w (name_at args i) (name_at args p.1)) low
         (subst (λ j. IsParted y w (name_at args (place_in t.params lower)) (name_at args j)) high
         (subst (λ o. IsParted y w o (name_at args (place_in t.params upper))) (sym a.at)
@@ -296,11 +305,7 @@ module _ (keeping : Bool) (task : TaskTree) (w : Where) (sound : IsSound w.tree)
         (subst (λ u. is_subregion w.scope.known (term.Child i (colour_of w.scope a.index)) u ≡ true) kept_b
         (subst (λ u. is_subregion w.scope.known u (term_in tb) ≡ true) (ca.part a.index) lies)) in
         let found = (found_by_number w.scope.next w.scope.names b.name scope.numbers b.there).0 in
-        let by : ((parent_bound w a.name).place ≡ (bound w b.name).place) ⊎ IsPart y (term_in (parent_bound w a.name).static_type) (term_in tb) =
-        ⊎_elim
-        (λ number. inl (ap (λ k. (bound_as w.scope.names k).place) (sym number) ∙ ap (λ (c : Bound). c.place) found))
-        (λ part. inr (subst (λ u. IsPart y u (term_in tb)) (sym ca.named) (subst (IsPart y (term.Name r)) (sym kept_b) part)))
-        (name_within w.tree task w.scope head sound_task r j over) in
+        let by = below_told task w head scope.numbers r j (parent_bound w a.name) (bound w b.name) refl found ca.named kept_b over in
         parted_below keeping y w args p a.keeps (subst (λ i. IsPartBelow y w (part_at args i) (name_at args p.1) (part_at args p.1)) low
         (subst (λ j. IsPartBelow y w (part_at args (place_in t.params lower)) (name_at args j) (part_at args j)) high
         (subst (λ o. IsPartBelow y w o (name_at args (place_in t.params upper)) (part_at args (place_in t.params upper))) (sym a.at)
@@ -322,7 +327,7 @@ module _ (keeping : Bool) (task : TaskTree) (w : Where) (sound : IsSound w.tree)
         (subst (λ u. is_subregion w.scope.known u (term_in (typed w (access_expr b.name (at_step b.index no_step)))) ≡ true) (ca.part a.index) lies)) in
         let alike : term.Child j kb ≡ term.Child i ka =
         ⊎_elim (λ e. e)
-        (λ below. absurd (subst IsName (sym (names_below w.tree task w.scope head (term.Name r) (term.Child j kb) below r refl).1) tt))
+        (λ below. absurd (subst IsName (sym (names_below w.tree task w.scope head (apart (place_in t.params upper) (b.name, b.index) b.at b.cut) (term.Name r) (term.Child j kb) below r refl).1) tt))
         (part_over w.tree task w.scope head i r ka (is_disjoint (bound w a.name).static_type) (bound w a.name)
         (bound_among w.scope.names a.name a.cut.named) refl ca.is (term.Child j kb)
         (part_below w.tree task w.scope head (term.Child i ka) (term.Child j kb) q.below i ka refl)) in
@@ -347,13 +352,13 @@ module _ (keeping : Bool) (task : TaskTree) (w : Where) (sound : IsSound w.tree)
         let q = (is_subregion-derivable w.scope.known (term.Name i) (term.Child j kb)).0
         (subst (λ u. is_subregion w.scope.known (term.Name i) u ≡ true) (cb.part b.index)
         (subst (λ u. is_subregion w.scope.known u (term_in (typed w (access_expr b.name (at_step b.index no_step)))) ≡ true) kept_a lies)) in
-        absurd (subst IsName (sym (names_below w.tree task w.scope head (term.Name i) (term.Child j kb) q.below i refl).1) tt)
+        absurd (subst IsName (sym (names_below w.tree task w.scope head (apart (place_in t.params upper) (b.name, b.index) b.at b.cut) (term.Name i) (term.Child j kb) q.below i refl).1) tt)
 
     parted : (p : ℕ × ℕ) → Has (pairs_in (scope_of w.tree t).known) p → IsPartedAt keeping y w args p
     parted p h =
         let c = pair_constrained w.tree t callee_sound p h in
         parted_as p c.lower c.upper c.told c.are.0 c.are.1 (region_at (place_in t.params c.lower) c.low.region) (region_at (place_in t.params c.upper) c.high.region)
 
-    pub calls_handed : slice_get (tasks_of w.tree) (place_of_task w.tree n) ≡ Some t → AllGoBack (scope_of w.tree t).names → AreDivided w args 0 ps → IsCallable (forms_by true keeping w.tree task) w n args
-    calls_handed at back divided =
-        (at, all_met keeping (Some y) w args (task_code w.tree t).needs met, all_parted keeping y w args (pairs_in (scope_of w.tree t).known) parted, back, divided)
+    pub calls_handed : slice_get (tasks_of w.tree) (place_of_task w.tree n) ≡ Some t → AllGoToParams (scope_of w.tree t).names → AreDivided w args 0 ps → IsCallable (forms_by true keeping w.tree task) w n args
+    calls_handed at goals divided =
+        (at, all_met keeping (Some y) w args (task_code w.tree t).needs met, all_parted keeping y w args (pairs_in (scope_of w.tree t).known) parted, goals, divided)

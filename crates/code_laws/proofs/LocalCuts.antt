@@ -1,6 +1,7 @@
 -- Variables that begin with partitions in a text with marked names, of which no breach is told, are typed.
-use Rattle.std.proofs.Common.{◌≡◌, Bool, [], None, Some, false, true, refl, ℕ, not}
-use Rattle.std.specs.Prelude.{◌||◌}
+use Rattle.std.proofs.Common.{◌≡◌, Bool, [], None, Option, Some, false, true, refl, ℕ, not}
+use Rattle.std.specs.Prelude.{◌&&◌, ◌||◌}
+use Rattle.std.specs.List.{list_any}
 use Rattle.std.proofs.lemmas.Bool.{and_parts, eqb-true, not-false, or_parts}
 use Rattle.plain_values.proofs.Plain.{option_or_parts}
 use Rattle.expression_laws.proofs.Steps.{all_has}
@@ -11,8 +12,9 @@ use Rattle.regent_tree.specs.Partitions.{both_flag, by_field_flag, either_flag, 
 use Rattle.regent_tree.specs.Scopes.{Scope, bound_to}
 use Rattle.regent_tree.specs.StaticTypes.{field_place}
 use Rattle.regent_tree.specs.Syntax.{Expression, Initializer, Name, TaskTree, Tree, both_initializer, by_field_initializer, either_initializer, equal_initializer, var_form}
-use Rattle.regent_tree.specs.Typing.{is_disjoint, parent_of, type_of}
+use Rattle.regent_tree.specs.Typing.{initializer_type, is_disjoint, known_of_initializer, parent_of, type_of}
 use Rattle.regent_tree.specs.declared.rights.Access.TheVariants as access
+use Rattle.regent_tree.specs.declared.types.TypeTerm.{TypeTerm}
 use Rattle.regent_tree.specs.declared.typing.StaticType.{StaticType}
 use Rattle.regent_tree.specs.declared.typing.StaticType.TheVariants.{Partition as partition_type}
 use Rattle.check_laws.proofs.Variables.{parts_of_form as told_of_form}
@@ -26,25 +28,27 @@ use Rattle.check_rules.specs.rules.Names.{are_partitions, unbound_name_in_initia
 use Rattle.check_rules.specs.rules.Partitions.{have_other_parents, miscolours_initializer, mispartitions_initializer}
 use Rattle.check_rules.specs.rules.Privileges.{lacks, may_do, reads_in_initializer, rights_declared, wanted_of_region, wanting}
 use Rattle.check_rules.specs.rules.Standing.{space_spot, stands}
-use Rattle.check_rules.specs.rules.Types.{may_stand}
+use Rattle.check_rules.specs.rules.Types.{is_ill_typed_at_place, may_stand}
 use Rattle.check_rules.specs.scopes.Sound.{IsSound, IsSoundTask}
-use Rattle.check_rules.specs.scopes.Variables.{types_in_initializer, written_in_initializer}
+use Rattle.check_rules.specs.scopes.Variables.{known_initializer, stands_declared, types_in_initializer, variable_type, written_in_initializer}
 use Rattle.check_rules.specs.types.KnownTypes.{known_type}
 use Rattle.check_rules.specs.types.Lookup.{names_a, region_has}
 use Rattle.check_rules.specs.types.Sorts.{is_partition, is_region, may_be}
-use Rattle.local_form.specs.LocalForm.{Marked, is_among, is_local_expression, is_local_form}
+use Rattle.local_form.specs.LocalForm.{Marked, is_among, is_local_expression}
 use Rattle.code_laws.specs.Arguments.{ArePaired}
 use Rattle.code_laws.specs.Handing.{forms_by}
 use Rattle.code_laws.specs.Simple.{IsPartition, IsRegion, IsSpace, a_partition_type, term_in}
 use Rattle.code_laws.specs.Steps.{Forms}
-use Rattle.code_laws.specs.Typed.{IsScanned, IsTyped}
+use Rattle.code_laws.specs.Typed.{IsBegunBy, IsScanned, IsTyped}
 use Rattle.code_rules.specs.Slots.{Where}
-use Rattle.code_laws.proofs.KnownHeads.{IsReady, head_cut, kept_may}
+use Rattle.code_laws.proofs.KnownHeads.{IsReady, kept_may}
+use Rattle.code_laws.proofs.KnownPlaces.{head_cut}
 use Rattle.code_laws.proofs.LocalCalls.{kept_term}
-use Rattle.code_laws.proofs.LocalNames.{IsKept, IsLocalTree, kept_partition, named_kept, parent_among, partition_is}
+use Rattle.code_laws.proofs.LocalNames.{IsKept, IsLocalTree, named_kept, parent_among, partition_is}
 use Rattle.code_laws.proofs.LocalPlaces.{field_is, region_is, spaced_name}
 use Rattle.code_laws.proofs.LocalParts.{region_wants}
-use Rattle.code_laws.proofs.LocalValues.{bound_among, value_space}
+use Rattle.code_laws.proofs.LocalSaid.{cut_typed}
+use Rattle.code_laws.proofs.LocalValues.{IsRegionAmong, bound_among, value_space}
 use Rattle.code_laws.proofs.LocalVariables.{VarTyped, at, headed, stands_as}
 use Rattle.code_laws.proofs.TypedStatements.{first_stands}
 use Rattle.code_laws.proofs.Typing.{AreKept}
@@ -65,8 +69,8 @@ module _ (handing keeping : Bool) (tree : Tree) (task : TaskTree) (sound : IsSou
   abbrev here : Scope → ℕ → Where
   here s line = at handing keeping tree task sound sound_task m local params result s line
 
-  abbrev pub Begins : Scope → ℕ → Name → Initializer → Type 0
-  Begins s line n i = VarTyped handing keeping tree task sound sound_task m local params result s line n None (Some i)
+  abbrev pub Begins : Scope → ℕ → Name → Option TypeTerm → Initializer → Type 0
+  Begins s line n t i = VarTyped handing keeping tree task sound sound_task m local params result s line n t (Some i)
 
   -- ---- what is told of an initializer
 
@@ -103,18 +107,25 @@ module _ (handing keeping : Bool) (tree : Tree) (task : TaskTree) (sound : IsSou
       let kept = named_kept keeping m s.names r names.names there.0 in
       record { there = there.0; may = there.1; kept = kept; region = region_is handing keeping tree sound m local s.names names.names r b.number b.static_type kept there.1 }
 
-  -- of which a partition is kept
-  pub cut_kept : (s : Scope) (n r : Name) (d : Bool) → HasRegion s r → is_among m.partitions n ≡ true →
-      IsKept keeping m s.names n s.next (partition_type d (bound_to s.names r).number s.next)
-  cut_kept s n r d h marked =
-      let b = bound_to s.names r in
-      kept_partition d b.number (keeps n marked) (record {
+  -- which a partition may be of
+  pub region_there : (s : Scope) (r : Name) → HasRegion s r → IsRegionAmong s.names (bound_to s.names r).number
+  region_there s r h =
+      let b = bound_to s.names r in record {
         named = b;
         among = bound_among s.names r h.there;
         number = refl;
         region = h.region;
         term = kept_term keeping m s.names r b.number b.static_type h.kept h.region;
-      }) marked
+      }
+
+  -- a variable that begins with a partition
+  pub cut_begun : (s : Scope) (line : ℕ) (n : Name) (t : Option TypeTerm) (i : Initializer) (d : Bool) (r : ℕ) → is_among m.partitions n ≡ true →
+      IsSoundScope s → Ready s → first_of_form tree task s (var_form n t (Some i)) ≡ None → initializer_type tree s s.next i ≡ partition_type d r s.next →
+      known_of_initializer tree s s.next (Some i) ≡ [] → IsRegionAmong s.names r →
+      list_any (is_ill_typed_at_place s.known) (stands_declared (known_initializer tree s i) t (variable_type tree s t (Some i))) ≡ false →
+      IsBegunBy forms (here s line) i → Begins s line n t i
+  cut_begun s line n t i d r marked =
+      cut_typed handing keeping tree task sound sound_task m local params result s line n t i d r (keeps n marked) marked
 
   -- a partition
   pub record HasPartition (s : Scope) (n : Name) : Type 0 where
@@ -156,39 +167,35 @@ module _ (handing keeping : Bool) (tree : Tree) (task : TaskTree) (sound : IsSou
       record { is = a.is; space = value_space keeping s.names (type_of tree s y) a.value (stands_as handing keeping tree task sound sound_task m local params result s y space_spot scope told may) }
 
   -- equal parts of a region that has a name
-  pub equal_local : (s : Scope) (line : ℕ) (n r : Name) (y : Expression) → is_local_form m (var_form n None (Some (equal_initializer r y))) ≡ true →
-      AreKept (parts_of_expression y) → IsSoundScope s → Ready s → first_of_form tree task s (var_form n None (Some (equal_initializer r y))) ≡ None →
-      Begins s line n (equal_initializer r y)
-  equal_local s line n r y lo k scope names e =
+  pub equal_local : (s : Scope) (line : ℕ) (n : Name) (t : Option TypeTerm) (r : Name) (y : Expression) → (is_among m.partitions n && is_local_expression m y) ≡ true →
+      AreKept (parts_of_expression y) → IsSoundScope s → Ready s → first_of_form tree task s (var_form n t (Some (equal_initializer r y))) ≡ None →
+      Begins s line n t (equal_initializer r y)
+  equal_local s line n t r y lo k scope names e =
       let i = equal_initializer r y in
       let both = and_parts (is_among m.partitions n) (is_local_expression m y) lo in
-      let parts = told_of_form tree task s sound scope (var_form n None (Some i)) e in
-      let c = coloured s line y both.1 k scope names (option_or_parts (first_in_expression tree task s y) _ parts.2).0
-      (first_stands s.known (stands (known_type tree s y) space_spot) [] parts.4).0 in
+      let parts = told_of_form tree task s sound scope (var_form n t (Some i)) e in
+      let stood = first_stands s.known (stands (known_type tree s y) space_spot) (stands_declared (known_initializer tree s i) t (variable_type tree s t (Some i))) parts.4 in
+      let c = coloured s line y both.1 k scope names (option_or_parts (first_in_expression tree task s y) _ parts.2).0 stood.0 in
       let u = untold s i (option_or_parts (first_of_initializer tree task s i) _ parts.3).0 in
-      let h = has_region s r names (not-false (names_a is_region s.names r) u.names) in (
-        (keeps n both.0, c.space, c.is, record { named = h.there; numbers = scope.numbers; region = h.region }),
-        cut_kept s n r equal_flag h both.0,
-        head_cut tree task s n equal_flag (bound_to s.names r).number scope.numbers names.head.facts,
-      )
+      let h = has_region s r names (not-false (names_a is_region s.names r) u.names) in
+      cut_begun s line n t i equal_flag (bound_to s.names r).number both.0 scope names e refl refl (region_there s r h) stood.1
+      (keeps n both.0, c.space, c.is, record { named = h.there; numbers = scope.numbers; region = h.region })
 
   -- by a field of it
-  pub by_field_local : (s : Scope) (line : ℕ) (n r f : Name) (y : Expression) → is_local_form m (var_form n None (Some (by_field_initializer r f y))) ≡ true →
-      AreKept (parts_of_expression y) → IsSoundScope s → Ready s → first_of_form tree task s (var_form n None (Some (by_field_initializer r f y))) ≡ None →
-      Begins s line n (by_field_initializer r f y)
-  by_field_local s line n r f y lo k scope names e =
+  pub by_field_local : (s : Scope) (line : ℕ) (n : Name) (t : Option TypeTerm) (r f : Name) (y : Expression) → (is_among m.partitions n && is_local_expression m y) ≡ true →
+      AreKept (parts_of_expression y) → IsSoundScope s → Ready s → first_of_form tree task s (var_form n t (Some (by_field_initializer r f y))) ≡ None →
+      Begins s line n t (by_field_initializer r f y)
+  by_field_local s line n t r f y lo k scope names e =
       let i = by_field_initializer r f y in
       let both = and_parts (is_among m.partitions n) (is_local_expression m y) lo in
-      let parts = told_of_form tree task s sound scope (var_form n None (Some i)) e in
-      let c = coloured s line y both.1 k scope names (option_or_parts (first_in_expression tree task s y) _ parts.2).0
-      (first_stands s.known (stands (known_type tree s y) space_spot) [] parts.4).0 in
+      let parts = told_of_form tree task s sound scope (var_form n t (Some i)) e in
+      let stood = first_stands s.known (stands (known_type tree s y) space_spot) (stands_declared (known_initializer tree s i) t (variable_type tree s t (Some i))) parts.4 in
+      let c = coloured s line y both.1 k scope names (option_or_parts (first_in_expression tree task s y) _ parts.2).0 stood.0 in
       let u = untold s i (option_or_parts (first_of_initializer tree task s i) _ parts.3).0 in
       let known = or_parts (not (names_a is_region s.names r)) (not (region_has tree (type_named s.names r) f)) u.names in
-      let h = has_region s r names (not-false (names_a is_region s.names r) known.0) in (
-        (keeps n both.0, c.space, c.is, scanned s line r f scope names h (not-false (region_has tree (type_named s.names r) f) known.1) u.reads),
-        cut_kept s n r by_field_flag h both.0,
-        head_cut tree task s n by_field_flag (bound_to s.names r).number scope.numbers names.head.facts,
-      )
+      let h = has_region s r names (not-false (names_a is_region s.names r) known.0) in
+      cut_begun s line n t i by_field_flag (bound_to s.names r).number both.0 scope names e refl refl (region_there s r h) stood.1
+      (keeps n both.0, c.space, c.is, scanned s line r f scope names h (not-false (region_has tree (type_named s.names r) f) known.1) u.reads)
 
   -- ---- partitions of two others
 
@@ -212,36 +219,27 @@ module _ (handing keeping : Bool) (tree : Tree) (task : TaskTree) (sound : IsSou
         };
       }
 
-  pair_kept : (s : Scope) (n p : Name) (d : Bool) → HasPartition s p → is_among m.partitions n ≡ true →
-      IsKept keeping m s.names n s.next (partition_type d (parent_of (bound_to s.names p).static_type) s.next)
-  pair_kept s n p d h marked =
-      let b = bound_to s.names p in
-      kept_partition d (parent_of b.static_type) (keeps n marked)
-      (parent_among keeping m s.names p b.number b.static_type h.kept h.partition).0 marked
+  -- the region of one
+  parent_there : (s : Scope) (p : Name) → HasPartition s p → IsRegionAmong s.names (parent_of (bound_to s.names p).static_type)
+  parent_there s p h = let b = bound_to s.names p in (parent_among keeping m s.names p b.number b.static_type h.kept h.partition).0
 
-  pub both_local : (s : Scope) (line : ℕ) (n p q : Name) → is_local_form m (var_form n None (Some (both_initializer p q))) ≡ true →
-      IsSoundScope s → Ready s → first_of_form tree task s (var_form n None (Some (both_initializer p q))) ≡ None →
-      Begins s line n (both_initializer p q)
-  both_local s line n p q lo scope names e =
+  pub both_local : (s : Scope) (line : ℕ) (n : Name) (t : Option TypeTerm) (p q : Name) → is_among m.partitions n ≡ true →
+      IsSoundScope s → Ready s → first_of_form tree task s (var_form n t (Some (both_initializer p q))) ≡ None →
+      Begins s line n t (both_initializer p q)
+  both_local s line n t p q lo scope names e =
       let i = both_initializer p q in
-      let parts = told_of_form tree task s sound scope (var_form n None (Some i)) e in
+      let parts = told_of_form tree task s sound scope (var_form n t (Some i)) e in
       let u = untold s i (option_or_parts (first_of_initializer tree task s i) _ parts.3).0 in
       let pair = paired s line p q scope names u.names u.partitions in
-      let d = both_flag (is_disjoint (bound_to s.names p).static_type) (is_disjoint (bound_to s.names q).static_type) in (
-        (keeps n lo, pair.are),
-        pair_kept s n p d pair.first lo,
-        head_cut tree task s n d (parent_of (bound_to s.names p).static_type) scope.numbers names.head.facts,
-      )
+      let d = both_flag (is_disjoint (bound_to s.names p).static_type) (is_disjoint (bound_to s.names q).static_type) in
+      cut_begun s line n t i d (parent_of (bound_to s.names p).static_type) lo scope names e refl refl (parent_there s p pair.first) parts.4 (keeps n lo, pair.are)
 
-  pub either_local : (s : Scope) (line : ℕ) (n p q : Name) → is_local_form m (var_form n None (Some (either_initializer p q))) ≡ true →
-      IsSoundScope s → Ready s → first_of_form tree task s (var_form n None (Some (either_initializer p q))) ≡ None →
-      Begins s line n (either_initializer p q)
-  either_local s line n p q lo scope names e =
+  pub either_local : (s : Scope) (line : ℕ) (n : Name) (t : Option TypeTerm) (p q : Name) → is_among m.partitions n ≡ true →
+      IsSoundScope s → Ready s → first_of_form tree task s (var_form n t (Some (either_initializer p q))) ≡ None →
+      Begins s line n t (either_initializer p q)
+  either_local s line n t p q lo scope names e =
       let i = either_initializer p q in
-      let parts = told_of_form tree task s sound scope (var_form n None (Some i)) e in
+      let parts = told_of_form tree task s sound scope (var_form n t (Some i)) e in
       let u = untold s i (option_or_parts (first_of_initializer tree task s i) _ parts.3).0 in
-      let pair = paired s line p q scope names u.names u.partitions in (
-        (keeps n lo, pair.are),
-        pair_kept s n p either_flag pair.first lo,
-        head_cut tree task s n either_flag (parent_of (bound_to s.names p).static_type) scope.numbers names.head.facts,
-      )
+      let pair = paired s line p q scope names u.names u.partitions in
+      cut_begun s line n t i either_flag (parent_of (bound_to s.names p).static_type) lo scope names e refl refl (parent_there s p pair.first) parts.4 (keeps n lo, pair.are)

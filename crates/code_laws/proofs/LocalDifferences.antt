@@ -9,7 +9,7 @@ use Rattle.regent_tree.specs.Lookup.{is_bound, type_named}
 use Rattle.regent_tree.specs.Scopes.{Scope, bound_to, knowing, known_of_type, with_name}
 use Rattle.regent_tree.specs.StaticTypes.{Reach}
 use Rattle.regent_tree.specs.Syntax.{Expression, Initializer, Links, Name, TaskTree, Tree, a_link, access_expr, at_step, call_expr, cast_expr, chain_expr, convert_expr, field_step, is_null_expr, no_link, no_step, null_expr, number_expr, plain_initializer, prefix_expr, space_expr, truth_expr, var_form}
-use Rattle.regent_tree.specs.Typing.{known_of_child, operated, owned, parent_of}
+use Rattle.regent_tree.specs.Typing.{known_of_child, operated, owned, parent_of, scope_after}
 use Rattle.regent_tree.specs.declared.expression.Arithmetic.TheVariants.{Add, Divide, Multiply, Remainder, Subtract}
 use Rattle.regent_tree.specs.declared.expression.Operator.TheVariants.{And, Compare, Compute, Or}
 use Rattle.regent_tree.specs.declared.facts.Term.{Term}
@@ -30,14 +30,17 @@ use Rattle.check_rules.specs.rules.Types.{operates_on}
 use Rattle.check_rules.specs.scopes.Sound.{IsSound, IsSoundTask}
 use Rattle.check_rules.specs.scopes.Variables.{members_of}
 use Rattle.check_rules.specs.types.Sorts.{is_partition, may_be}
-use Rattle.local_form.specs.LocalForm.{Marked, gives_scalar, is_among, is_difference, is_local_expression, is_local_form, is_partition_name, keeps_pointer, takes_partition_off}
+use Rattle.local_form.specs.LocalForm.{Marked, begins_part, gives_scalar, is_among, is_difference, is_local_expression, is_local_form, is_partition_name, keeps_pointer, takes_partition_off}
 use Rattle.code_laws.specs.Arguments.{ArePaired}
-use Rattle.code_laws.specs.Handing.{forms_by}
+use Rattle.code_laws.specs.Handing.{forms_by, told_in}
+use Rattle.code_laws.proofs.LocalPieces.{piece_local}
+use Rattle.code_laws.proofs.Told.{ToldUpTo}
 use Rattle.code_laws.specs.Simple.{IsPartition, a_partition_type, simple_index, simple_integer, simple_space, simple_truth}
 use Rattle.code_laws.specs.Steps.{Forms}
 use Rattle.code_laws.specs.Typed.{IsKeepable, IsTyped}
 use Rattle.code_rules.specs.Slots.{Where}
-use Rattle.code_laws.proofs.KnownHeads.{IsReady, KnowsFacts, head_cut}
+use Rattle.code_laws.proofs.KnownHeads.{IsReady, KnowsFacts}
+use Rattle.code_laws.proofs.KnownPlaces.{head_cut}
 use Rattle.code_laws.proofs.LocalArguments.{name_well}
 use Rattle.code_laws.proofs.LocalCuts.{Begins, parents_same, untold}
 use Rattle.code_laws.proofs.LocalExpressions.{computed_well, operands}
@@ -130,7 +133,7 @@ module _ (handing keeping : Bool) (tree : Tree) (task : TaskTree) (sound : IsSou
   here s line = at handing keeping tree task sound sound_task m local params result s line
 
   abbrev Starts : Scope → ℕ → Name → Initializer → Type 0
-  Starts s line n i = Begins handing keeping tree task sound sound_task m local params result keeps s line n i
+  Starts s line n i = Begins handing keeping tree task sound sound_task m local params result keeps s line n None i
 
   -- an operand is a value, or a region or partition
   operand_of : (s : Scope) (n : Name) (i : ℕ) (t : StaticType) → IsKept keeping m s.names n i t → IsValue keeping s.names t ⊎ IsCollection t
@@ -154,7 +157,7 @@ module _ (handing keeping : Bool) (tree : Tree) (task : TaskTree) (sound : IsSou
   cut_begun : (s : Scope) (n : Name) (t u : StaticType) → IsPartition t → IsRegionAmong s.names (parent_of t) → is_among m.partitions n ≡ true →
       IsSoundScope s → Ready s →
       IsKept keeping m s.names n s.next (owned s.next (operated (Compute Subtract) t u))
-      × KnowsFacts tree task (knowing (with_name s n (owned s.next (operated (Compute Subtract) t u)) false)
+      × KnowsFacts m tree task (knowing (with_name s n (owned s.next (operated (Compute Subtract) t u)) false)
       (known_of_child s.next (operated (Compute Subtract) t u) ++ known_of_type (owned s.next (operated (Compute Subtract) t u))))
   cut_begun s n _ u (a_partition_type d r p) among marked scope names =
       (kept_partition d r (keeps n marked) among marked, head_cut tree task s n d r scope.numbers names.head.facts)
@@ -186,7 +189,7 @@ module _ (handing keeping : Bool) (tree : Tree) (task : TaskTree) (sound : IsSou
           parents = parents_same tp tq ca cb (or_parts (have_other_parents tp tq) false other).0;
         } in
         let begun = cut_begun s n tp tq ca (parent_among keeping m s.names p (bound_to s.names p).number tp a.kept ca).0 marked scope names in (
-          begun_apart keeping (here s line) difference (IsKeepable keeping (here s line) difference × IsTyped forms (here s line) difference) (keeps n marked) pair,
+          begun_apart keeping (here s line) difference (IsKeepable keeping (here s line) difference × IsTyped forms (here s line) difference) _ (keeps n marked) (inl pair),
           begun.0,
           begun.1,
         )
@@ -215,11 +218,11 @@ module _ (handing keeping : Bool) (tree : Tree) (task : TaskTree) (sound : IsSou
     by_types true may value told other = cut_apart may told other
     by_types false may value told other = numbers_apart value (option_or_parts (first_in_expression tree task s difference) _ told).0
 
-  -- a variable that begins with an expression, or with a difference
-  pub begun_local : (s : Scope) (line : ℕ) (n : Name) (y : Expression) → is_local_form m (var_form n None (Some (plain_initializer y))) ≡ true →
+  otherwise_local : (s : Scope) (line : ℕ) (n : Name) (y : Expression) →
+      ((gives_scalar m y || is_among m.indices n) && (keeps_pointer m n y && ((is_difference m y && is_among m.partitions n) || is_local_expression m y))) ≡ true →
       AreKept (parts_of_expression y) → IsSoundScope s → Ready s → first_of_form tree task s (var_form n None (Some (plain_initializer y))) ≡ None →
       Starts s line n (plain_initializer y)
-  begun_local s line n y lo k scope names e =
+  otherwise_local s line n y lo k scope names e =
       let own = (is_difference m y && is_among m.partitions n) || is_local_expression m y in
       let one = and_parts (gives_scalar m y || is_among m.indices n) (keeps_pointer m n y && own) lo in
       let two = and_parts (keeps_pointer m n y) own one.1 in
@@ -237,3 +240,12 @@ module _ (handing keeping : Bool) (tree : Tree) (task : TaskTree) (sound : IsSou
       by_types s line n is.0 is.1 both.1 scope names (may_be_partitions s.names is.0 is.1) refl value parts.2 u.partitions) value e)
       (λ plain. plain_local handing keeping tree task sound sound_task m local params result s line n y value two.0 plain k scope names e)
       (or_cases (is_difference m y && is_among m.partitions n) (is_local_expression m y) two.1)
+
+  -- a variable that begins with an expression, with a difference, or as a part
+  pub begun_local : (s : Scope) (line : ℕ) (n : Name) (y : Expression) → is_local_form m (var_form n None (Some (plain_initializer y))) ≡ true →
+      AreKept (parts_of_expression y) → IsSoundScope s → Ready s → ToldUpTo (told_in tree task) (scope_after tree s (var_form n None (Some (plain_initializer y)))) →
+      first_of_form tree task s (var_form n None (Some (plain_initializer y))) ≡ None → Starts s line n (plain_initializer y)
+  begun_local s line n y lo k scope names up e = ⊎_elim
+      (λ part. piece_local handing keeping tree task sound sound_task m local params result keeps s line n y part k scope names up e)
+      (λ other. otherwise_local s line n y other k scope names e)
+      (or_cases (begins_part m n y) _ lo)

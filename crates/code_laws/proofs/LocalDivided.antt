@@ -18,13 +18,11 @@ use Rattle.check_rules.specs.types.Params.{types_in_order}
 use Rattle.check_rules.specs.types.Sorts.{is_region, type_at}
 use Rattle.check_rules.specs.types.TypedForms.{calling}
 use Rattle.expression_laws.proofs.Calls.{IsFlawless}
-use Rattle.code_rules.specs.Programs.{task_code}
 use Rattle.code_rules.specs.Slots.{Where, bound, typed}
 use Rattle.local_form.specs.LocalForm.{Marked}
-use Rattle.code_laws.specs.Handing.{forms_by}
+use Rattle.code_laws.specs.Handing.{forms_by, taking_of}
 use Rattle.code_laws.specs.Simple.{IsRegion, a_region_type, term_in, IsScalar, IsPartition, a_partition_type, scalar_integer, scalar_truth}
 use Rattle.code_laws.specs.Steps.{Forms, Taking}
-use Rattle.code_laws.specs.Taking.{pairs_in}
 use Rattle.code_laws.specs.Arguments.{AreDivided, AreMet, IsCutName, name_at, name_of, IsDivided, IsDividedBy, IsHanded}
 use Rattle.code_laws.specs.Typed.{ArePassed, IsCallable, IsIndexed, IsPassed, IsTyped}
 use Rattle.code_laws.proofs.Arguments.{first_region}
@@ -37,7 +35,7 @@ use Rattle.check_rules.specs.rules.Partitions.{is_parent, mispartition_in, mispa
 use Rattle.expression_laws.proofs.Params.{param_type}
 use Rattle.value_laws.specs.Spaces.{HasSpacedDeclarations}
 use Rattle.code_laws.proofs.CallCuts.{passes_no_cut, regions_no_cut}
-use Rattle.code_laws.proofs.LocalCalls.{calls_handed, kept_term, cut_by, name_type, part_type}
+use Rattle.code_laws.proofs.LocalCalls.{ArePartsApart, calls_handed, kept_term, cut_by, name_type, part_type}
 use Rattle.code_laws.proofs.Arguments.{IsCutArgument, IsPartArgument, handed_name, handed_part}
 use Rattle.code_laws.proofs.Wider.{passing}
 use Rattle.code_laws.proofs.LocalNames.{AreScalars}
@@ -95,7 +93,7 @@ unknown_told types (region_type k sp args r) = refl
 unknown_told types no_type = refl
 unknown_told types unknown_type = refl
 
-told_at : (types ps ts : List StaticType) → mispartition_in types ps ts ≡ false → (k : ℕ) → mispartitions types (type_at ps k) (type_at ts k) ≡ false
+pub told_at : (types ps ts : List StaticType) → mispartition_in types ps ts ≡ false → (k : ℕ) → mispartitions types (type_at ps k) (type_at ts k) ≡ false
 told_at types [] ts e zero = refl
 told_at types [] ts e (suc k) = refl
 told_at types (p ∷ ps) [] e zero = unknown_told types p
@@ -108,7 +106,7 @@ parent_named : (i : ℕ) (t : StaticType) → IsRegion t → is_parent i t ≡ t
 parent_named i _ (a_region_type k sp args r) e = e
 
 module _ (keeping : Bool) (task : TaskTree) (w : Where) (sound : IsSound w.tree) (sound_task : IsSoundTask w.tree task) (m : Marked)
-    (scope : IsSoundScope w.scope) (names : AllKept keeping m w.scope.names) (head : KnowsHead w.tree task w.scope) (declared : HasSpacedDeclarations w.tree)
+    (scope : IsSoundScope w.scope) (names : AllKept keeping m w.scope.names) (head : KnowsHead m w.tree task w.scope) (declared : HasSpacedDeclarations w.tree)
     (n : Name) (args : Expressions) (told : first_in_args w.tree task w.scope args ≡ None)
     (parts : IsFlawless w.tree task w.scope (calling n (known_types w.tree w.scope args)))
     (passed : ArePassed (forms_by true keeping w.tree task) w (params_at w.tree w.scope (task_named w.tree n) args) (param_types w.tree (task_named w.tree n)) args) where
@@ -116,7 +114,7 @@ module _ (keeping : Bool) (task : TaskTree) (w : Where) (sound : IsSound w.tree)
   t = task_named w.tree n
 
   abbrev y : Taking
-  y = record { params = length task.params; needs = (task_code w.tree task).needs; within = pairs_in (scope_of w.tree task).known }
+  y = taking_of w.tree task
 
   abbrev ps : List StaticType
   ps = param_types w.tree t
@@ -197,12 +195,12 @@ module _ (keeping : Bool) (task : TaskTree) (w : Where) (sound : IsSound w.tree)
 
 -- with regions that are handed over, or without
 pub may_call : (handing keeping : Bool) (task : TaskTree) (w : Where) → IsSound w.tree → IsSoundTask w.tree task → (m : Marked) → IsLocalTree handing keeping m w.tree →
-    IsSoundScope w.scope → AllKept keeping m w.scope.names → KnowsHead w.tree task w.scope → (n : Name) (args : Expressions) → IsLocalTask handing keeping w.tree n →
+    IsSoundScope w.scope → AllKept keeping m w.scope.names → KnowsHead m w.tree task w.scope → (n : Name) (args : Expressions) → IsLocalTask handing keeping w.tree n →
     first_in_args w.tree task w.scope args ≡ None → IsFlawless w.tree task w.scope (calling n (known_types w.tree w.scope args)) →
     ArePassed (forms_by handing keeping w.tree task) w (params_at w.tree w.scope (task_named w.tree n) args) (param_types w.tree (task_named w.tree n)) args →
-    IsCallable (forms_by handing keeping w.tree task) w n args
-may_call false keeping task w sound sound_task m local scope names head n args l told parts passed =
-    (l.called, subst (AreMet keeping None w args) (sym (l.alone refl).needs) tt, tt, l.back, none_divided w args 0 (param_types w.tree (task_named w.tree n)) (l.alone refl).params)
-may_call true keeping task w sound sound_task m local scope names head n args l told parts passed =
-    calls_handed keeping task w sound sound_task m scope names head n args told parts (sound.tasks (task_named w.tree n) l.stands) local.named passed l.called l.back
+    ArePartsApart m w args → IsCallable (forms_by handing keeping w.tree task) w n args
+may_call false keeping task w sound sound_task m local scope names head n args l told parts passed apart =
+    (l.called, subst (AreMet keeping None w args) (sym (l.alone refl).needs) tt, tt, l.goals, none_divided w args 0 (param_types w.tree (task_named w.tree n)) (l.alone refl).params)
+may_call true keeping task w sound sound_task m local scope names head n args l told parts passed apart =
+    calls_handed keeping task w sound sound_task m scope names head n args told parts (sound.tasks (task_named w.tree n) l.stands) local.named passed apart l.called l.goals
     (divided_told keeping task w sound sound_task m scope names head local.declared n args told parts passed)

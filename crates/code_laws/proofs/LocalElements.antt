@@ -124,7 +124,7 @@ own_region w falls n there k sp args same =
 -- ---- elements
 
 module _ (handing keeping : Bool) (task : TaskTree) (w : Where) (sound : IsSound w.tree) (sound_task : IsSoundTask w.tree task) (m : Marked)
-    (local : IsLocalTree handing keeping m w.tree) (scope : IsSoundScope w.scope) (names : AllKept keeping m w.scope.names) (head : KnowsHead w.tree task w.scope) where
+    (local : IsLocalTree handing keeping m w.tree) (scope : IsSoundScope w.scope) (names : AllKept keeping m w.scope.names) (head : KnowsHead m w.tree task w.scope) where
   abbrev forms : Forms
   forms = forms_by handing keeping w.tree task
 

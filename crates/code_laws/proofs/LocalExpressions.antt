@@ -31,7 +31,7 @@ use Rattle.check_rules.specs.types.TypedForms.{calling, computing, element_of, f
 use Rattle.check_rules.specs.declared.rule.Rule.TheVariants as rule
 use Rattle.check_rules.proofs.Untold.{rule_none}
 use Rattle.code_rules.specs.Slots.{Where, bound, typed}
-use Rattle.local_form.specs.LocalForm.{Marked, are_fields, are_local_arguments, are_local_expressions, are_local_links, gives_scalar, is_among, is_kept_field, is_local_expression, is_name, is_part, links_give, converts_to, gives_pointer, goes_to_names, takes_element}
+use Rattle.local_form.specs.LocalForm.{Marked, are_fields, are_local_arguments, are_local_expressions, are_local_links, gives_scalar, is_among, is_kept_field, is_local_expression, is_name, is_part, links_give, converts_to, gives_pointer, goes_to_names, takes_element, takes_signs}
 use Rattle.code_laws.specs.Handing.{forms_by}
 use Rattle.code_laws.specs.Pointers.{ConvertsTo, CountsAs, term_index}
 use Rattle.code_laws.specs.Simple.{IsPartition, IsScalar, IsSimple, a_partition_type, scalar_integer, scalar_truth, simple_index, simple_space, simple_truth, term_32, term_64}
@@ -47,14 +47,15 @@ use Rattle.code_laws.proofs.LocalPlaces.{named_place}
 use Rattle.code_laws.proofs.LocalTypes.{left_alone, operated_number, simple_computed}
 use Rattle.code_laws.proofs.TypedStatements.{first_stands}
 use Rattle.check_laws.proofs.Widths.{literal_fits}
-use Rattle.code_laws.proofs.Typing.{AreKept, kept_behind, kept_left, kept_right, no_way, no_way_back, number_scalar, operates, signed_scalar, signs_fit, stands_well}
+use Rattle.code_laws.proofs.Typing.{AreKept, kept_behind, kept_left, kept_right, no_way, no_way_back, number_scalar, operates, stands_well}
 use Rattle.code_laws.proofs.Values.{scalar_simple}
-use Rattle.code_laws.proofs.LocalValues.{IsValue, integer_converts, signs_as, value_after, value_compared, value_computed, value_counts, value_integer, value_operated, value_simple, value_truths}
+use Rattle.code_laws.proofs.LocalSigns.{signed_well}
+use Rattle.code_laws.proofs.LocalValues.{IsValue, integer_converts, value_after, value_compared, value_computed, value_counts, value_integer, value_operated, value_simple, value_truths}
 use Rattle.code_laws.proofs.LocalPoints.{IsWell, at_point, behind_name, cut_name, gone, held_well, is_behind, local_known, name_there, scalar_well, touched}
-use Rattle.code_laws.proofs.LocalArguments.{IsArgument, IsCallWell, argument_of, call_well, given_one, name_well, part_of_name}
+use Rattle.code_laws.proofs.LocalArguments.{IsArgument, IsCallWell, argument_of, call_well, given_one, name_well, part_of_name, parts_apart}
 
 module _ (handing keeping : Bool) (task : TaskTree) (w : Where) (sound : IsSound w.tree) (sound_task : IsSoundTask w.tree task) (m : Marked)
-    (local : IsLocalTree handing keeping m w.tree) (scope : IsSoundScope w.scope) (names : AllKept keeping m w.scope.names) (head : KnowsHead w.tree task w.scope) where
+    (local : IsLocalTree handing keeping m w.tree) (scope : IsSoundScope w.scope) (names : AllKept keeping m w.scope.names) (head : KnowsHead m w.tree task w.scope) where
   abbrev forms : Forms
   forms = forms_by handing keeping w.tree task
 
@@ -156,12 +157,12 @@ module _ (handing keeping : Bool) (task : TaskTree) (w : Where) (sound : IsSound
         (subst (λ t. first_in_links w.tree task w.scope t rest ≡ None) (known first told.0) told.1) in
         record { is = (a.is, l.are); value = l.value; scalar = l.scalar; plain = λ q. chain_plain first rest a l q }
     local_well (prefix_expr signs e) lo k none =
-        let s = and_parts (gives_scalar m e) (is_local_expression m e) lo in
+        let s = and_parts (takes_signs m signs (gives_scalar m e)) (is_local_expression m e) lo in
         let told = option_or_parts (first_in_expression w.tree task w.scope e) _ none in
         let parts = kept_right (nodes signs) (parts_of_expression e) (kept_behind node (nodes signs ++ parts_of_expression e) k) in
         let a = local_well e s.1 parts told.0 in
-        let fit = signs_fit (typed w e) signs (a.scalar s.0) (subst (λ t. first_of_signs signs t ≡ None) (known e told.0) told.1) in
-        scalar_well handing keeping task w sound sound_task m local scope names head (prefix_expr signs e) (a.is, signs_as keeping (typed w e) signs fit) (signed_scalar (typed w e) signs fit)
+        signed_well handing keeping task w sound sound_task m local scope names head signs e a (gives_scalar m e) refl s.0
+        (subst (λ t. first_of_signs signs t ≡ None) (known e told.0) told.1)
     local_well (access_expr n no_step) lo k e =
         let told = option_or_parts (rule_if (not (is_bound w.scope.names n)) rule.Name) _ e in
         let there = name_there handing keeping task w sound sound_task m local scope names head n told.0 in
@@ -214,7 +215,7 @@ module _ (handing keeping : Bool) (task : TaskTree) (w : Where) (sound : IsSound
         let p = call_well handing keeping task w sound sound_task m local scope names head n args told.0 called.0
         (λ t. local_given (known_types w.tree w.scope args) (types_of w.tree w.scope args) (param_types w.tree (task_named w.tree n)) args lo
         (kept_behind node (parts_of_expressions args) k) (local.tasks n t.there).params (λ q. ((local.tasks n t.there).alone q).params) told.0 t.standing t.fits
-        t.many) in
+        t.many) (parts_apart handing keeping task w sound sound_task m local scope names head args lo) in
         let given = rule_none (has_no_result w.tree c) rule.Type called.1 in
         let some = and_then (has_task w.tree n) (is_none (task_named w.tree n).result) p.there given in
         let scalar = given_result w.tree (task_named w.tree n).result (local.tasks n p.there).result some in
@@ -303,7 +304,7 @@ module _ (handing keeping : Bool) (task : TaskTree) (w : Where) (sound : IsSound
     local_given all types (p ∷ ps) no_expr lo k takable alone told standing fits many = absurd (omega (arith, many))
     local_given all types [] (an_expr e es) lo k takable alone told standing fits many = absurd (omega (arith, many))
     local_given all types (p ∷ ps) (an_expr e es) lo k takable alone told standing fits many =
-        let s = and_parts (is_name e || (is_part m e || is_local_expression m e)) (are_local_arguments m es) lo in
+        let s = and_parts (is_name e || ((not m.parts && is_part m e) || is_local_expression m e)) (are_local_arguments m es) lo in
         let parts = option_or_parts (first_in_expression w.tree task w.scope e) _ told in
         let k_e = kept_left (parts_of_expression e) (parts_of_expressions es) k in
         let a = argument_of handing keeping task w sound sound_task m local scope names head e s.0 parts.0 (λ part. local_part e part k_e parts.0)
@@ -321,6 +322,7 @@ module _ (handing keeping : Bool) (task : TaskTree) (w : Where) (sound : IsSound
   local_call n args lo k told e = call_well handing keeping task w sound sound_task m local scope names head n args told e
       (λ t. local_given (known_types w.tree w.scope args) (types_of w.tree w.scope args) (param_types w.tree (task_named w.tree n)) args lo k
       (local.tasks n t.there).params (λ q. ((local.tasks n t.there).alone q).params) told t.standing t.fits t.many)
+      (parts_apart handing keeping task w sound sound_task m local scope names head args lo)
 
   -- two that an operator computes with
   pub record AreOperands (o : Arithmetic) (first e : Expression) : Type 0 where

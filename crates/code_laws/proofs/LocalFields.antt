@@ -24,7 +24,7 @@ use Rattle.check_rules.specs.types.Sorts.{is_integer, may_be}
 use Rattle.code_rules.specs.Slots.{Where, bound}
 use Rattle.scalar_form.specs.ScalarForm.{is_scalar_term}
 use Rattle.local_form.specs.LocalForm.{Marked, is_among}
-use Rattle.code_laws.specs.Pointers.{AreNames, FieldKeeps, FillsInto, IsAssigned, IsPointer, KeepsAs, a_pointer_type, assigned_plain, assigned_pointer, filled_plain, filled_pointer, fills_index, into_index, into_plain, keeps_index, keeps_plain, keeps_pointer}
+use Rattle.code_laws.specs.Pointers.{AreNames, FieldKeeps, FillsInto, IsAssigned, IsPointer, KeepsAs, a_pointer_type, assigned_plain, assigned_pointer, filled_index, filled_plain, filled_pointer, fills_index, into_index, into_plain, keeps_index, keeps_plain, keeps_pointer}
 use Rattle.code_laws.specs.Simple.{FieldFits, IsInteger, IsRegion, IsScalar, IsSimple, number_index, number_integer, simple_index, simple_integer, simple_space, simple_truth}
 use Rattle.code_laws.specs.Typed.{IsFieldOf}
 use Rattle.code_laws.proofs.LocalTypes.{simple_as_integer, term_fits, term_scalar}
@@ -116,14 +116,15 @@ module _ (keeping : Bool) (marked : FieldMarks) (f : Name) where
   held_assigned bs known from _ _ a (held_pointer p k sp args rs q h same names few) e =
       pointer_into keeping bs known from (pointer_type k sp args rs) q (a_pointer_type k sp args rs (names_aims rs names)) a e
 
-  -- so does what a fill brings, which is no pointer where the field holds indices
-  index_fills : (b : Bool) (known : List Known) (from : StaticType) (k : Kind) → b ≡ true → IsSimple from → fits known from (index_type k) ≡ true →
+  -- so does what a fill brings
+  index_fills : (b : Bool) (bs : List Bound) (known : List Known) (from : StaticType) (k : Kind) → b ≡ true → IsValue b bs from → fits known from (index_type k) ≡ true →
       FillsInto b from (index_type k)
-  index_fills false known from k q a e = absurd (no_way_back q)
-  index_fills true known _ k q (simple_integer w) e = filled_plain _ _ (fills_index _ k (number_integer w))
-  index_fills true known _ k q (simple_index j) e = filled_plain _ _ (fills_index _ k (number_index j))
-  index_fills true known _ k q simple_truth e = absurd (no_way_back e)
-  index_fills true known _ k q (simple_space j) e = absurd (no_way_back e)
+  index_fills false bs known from k q a e = absurd (no_way_back q)
+  index_fills true bs known _ k q (value_simple _ (simple_integer w)) e = filled_plain _ _ (fills_index _ k (number_integer w))
+  index_fills true bs known _ k q (value_simple _ (simple_index j)) e = filled_plain _ _ (fills_index _ k (number_index j))
+  index_fills true bs known _ k q (value_simple _ simple_truth) e = absurd (no_way_back e)
+  index_fills true bs known _ k q (value_simple _ (simple_space j)) e = absurd (no_way_back e)
+  index_fills true bs known _ k q (value_pointer j sp args i h r) e = filled_index j sp args _ k
 
   pointer_fills : (b : Bool) (bs : List Bound) (known : List Known) (from u : StaticType) → b ≡ true → IsPointer u → IsValue b bs from →
       fits known from u ≡ true → FillsInto b from u
@@ -131,10 +132,10 @@ module _ (keeping : Bool) (marked : FieldMarks) (f : Name) where
   pointer_fills true bs known from u q p a e = filled_pointer from u (pointer_fitting true bs known from u a p e) p
 
   pub held_fills : (bs : List Bound) (known : List Known) (from : StaticType) (d : TypeTerm) (t : StaticType) → IsValue keeping bs from →
-      (is_among marked.0 f ≡ true → IsSimple from) → Held d t → fits known from t ≡ true → FillsInto keeping from t
-  held_fills bs known from d t a plain (held_scalar _ _ s fit) e = alike_filled keeping from t (value_fitting keeping bs known from t a s e)
-  held_fills bs known from _ _ a plain (held_index k q h) e = index_fills keeping known from k q (plain h) e
-  held_fills bs known from _ _ a plain (held_pointer p k sp args rs q h same names few) e =
+      Held d t → fits known from t ≡ true → FillsInto keeping from t
+  held_fills bs known from d t a (held_scalar _ _ s fit) e = alike_filled keeping from t (value_fitting keeping bs known from t a s e)
+  held_fills bs known from _ _ a (held_index k q h) e = index_fills keeping bs known from k q a e
+  held_fills bs known from _ _ a (held_pointer p k sp args rs q h same names few) e =
       pointer_fills keeping bs known from (pointer_type k sp args rs) q (a_pointer_type k sp args rs (names_aims rs names)) a e
 
 -- a field of a name's region, where it holds such

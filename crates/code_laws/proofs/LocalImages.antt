@@ -1,6 +1,6 @@
 -- Variables that begin with images and preimages in a text with marked names, of which no breach is told, are typed: what the
 -- field is read for lies within the field's region.
-use Rattle.std.proofs.Common.{◌≡◌, Bool, List, None, Some, false, true, refl, ap, sym, subst, ℕ, ◌∙◌, not, inl, inr, ⊎_elim}
+use Rattle.std.proofs.Common.{◌≡◌, Bool, List, None, Option, Some, false, true, refl, ap, sym, subst, ℕ, ◌∙◌, not, inl, inr, ⊎_elim}
 use Rattle.std.specs.Prelude.{length, ◌&&◌, ◌||◌}
 use Rattle.std.proofs.lemmas.Bool.{and_from, not-false, or_parts}
 use Rattle.plain_values.proofs.Plain.{option_or_parts}
@@ -13,6 +13,7 @@ use Rattle.regent_tree.specs.Typing.{is_disjoint, parent_of}
 use Rattle.regent_tree.specs.declared.facts.Known.{Known}
 use Rattle.regent_tree.specs.declared.facts.Term.TheVariants as place
 use Rattle.regent_tree.specs.declared.rights.Access.TheVariants as access
+use Rattle.regent_tree.specs.declared.types.TypeTerm.{TypeTerm}
 use Rattle.regent_tree.specs.declared.typing.Bound.{Bound}
 use Rattle.regent_tree.specs.declared.typing.StaticType.{StaticType}
 use Rattle.check_laws.proofs.Scopes.{found_by_number}
@@ -26,19 +27,18 @@ use Rattle.check_rules.specs.scopes.Sound.{IsSound, IsSoundTask}
 use Rattle.check_rules.specs.types.Declarations.{known_field}
 use Rattle.check_rules.specs.types.Lookup.{names_a, region_has}
 use Rattle.check_rules.specs.types.Sorts.{is_partition, is_region, is_unknown_type}
-use Rattle.code_rules.specs.Programs.{task_code}
 use Rattle.code_rules.specs.Slots.{Where}
-use Rattle.local_form.specs.LocalForm.{Marked, is_among, is_local_form}
-use Rattle.code_laws.specs.Arguments.{IsPart, LiesBelow}
+use Rattle.local_form.specs.LocalForm.{Marked, is_among}
+use Rattle.code_laws.specs.Arguments.{LiesBelow}
 use Rattle.code_laws.specs.Handing.{forms_by, takes_by}
 use Rattle.code_laws.specs.Simple.{IsPartition, IsRegion, a_partition_type, a_region_type, term_in}
-use Rattle.code_laws.specs.Steps.{Forms, Taking}
-use Rattle.code_laws.specs.Taking.{pairs_in}
+use Rattle.code_laws.specs.Steps.{Forms}
 use Rattle.code_laws.specs.Typed.{IsScanned}
-use Rattle.code_laws.proofs.KnownHeads.{IsReady, head_cut}
-use Rattle.code_laws.proofs.KnownParts.{name_within}
+use Rattle.code_laws.proofs.KnownHeads.{IsReady}
+use Rattle.code_laws.proofs.KnownPlaces.{head_cut}
+use Rattle.code_laws.proofs.LocalBegan.{below_told}
 use Rattle.code_laws.proofs.LocalCalls.{kept_term}
-use Rattle.code_laws.proofs.LocalCuts.{Begins, HasPartition, HasRegion, cut_kept, has_partition, has_region, scanned, untold}
+use Rattle.code_laws.proofs.LocalCuts.{Begins, HasPartition, HasRegion, cut_begun, has_partition, has_region, region_there, scanned, untold}
 use Rattle.code_laws.proofs.LocalNames.{IsLocalTree, parent_among, region_of_number}
 use Rattle.code_laws.proofs.LocalParts.{and_then}
 use Rattle.code_laws.proofs.LocalVariables.{at}
@@ -68,8 +68,8 @@ module _ (handing keeping : Bool) (tree : Tree) (task : TaskTree) (sound : IsSou
   abbrev here : Scope → ℕ → Where
   here s line = at handing keeping tree task sound sound_task m local params result s line
 
-  abbrev Starts : Scope → ℕ → Name → Initializer → Type 0
-  Starts s line n i = Begins handing keeping tree task sound sound_task m local params result keeps s line n i
+  abbrev Starts : Scope → ℕ → Name → Option TypeTerm → Initializer → Type 0
+  Starts s line n t i = Begins handing keeping tree task sound sound_task m local params result keeps s line n t i
 
   abbrev Region : Scope → Name → Type 0
   Region s r = HasRegion handing keeping tree task sound sound_task m local params result keeps s r
@@ -100,29 +100,23 @@ module _ (handing keeping : Bool) (tree : Tree) (task : TaskTree) (sound : IsSou
       }
 
   -- one region lies within another, by their numbers
-  lies_below : (h : Bool) → h ≡ true → (s : Scope) → Ready s → (i j : ℕ) (a b : Bound) → bound_as s.names i ≡ a → bound_as s.names j ≡ b →
+  lies_below : (h : Bool) → h ≡ true → (s : Scope) (line : ℕ) → IsSoundScope s → Ready s → (i j : ℕ) (a b : Bound) → bound_as s.names i ≡ a → bound_as s.names j ≡ b →
       term_in a.static_type ≡ place.Name i → term_in b.static_type ≡ place.Name j → is_subregion s.known (place.Name i) (place.Name j) ≡ true →
-      LiesBelow (takes_by h tree task) a b
-  lies_below false q s names i j a b fa fb ta tb e = absurd (no_way_back q)
-  lies_below true q s names i j a b fa fb ta tb e = ⊎_elim
-      (λ number. inl (sym (ap (λ (c : Bound). c.place) fa) ∙ ap (λ k. (bound_as s.names k).place) (sym number) ∙ ap (λ (c : Bound). c.place) fb))
-      (λ part. inr (subst (λ u. IsPart y u (term_in b.static_type)) (sym ta) (subst (IsPart y (place.Name i)) (sym tb) part)))
-      (name_within tree task s names.head sound_task i j e)
-    where
-      y : Taking
-      y = record { params = length task.params; needs = (task_code tree task).needs; within = pairs_in (scope_of tree task).known }
+      LiesBelow (takes_by h tree task) (here s line) a b
+  lies_below false q s line scope names i j a b fa fb ta tb e = absurd (no_way_back q)
+  lies_below true q s line scope names i j a b fa fb ta tb e = below_told task (here s line) names.head scope.numbers i j a b fa fb ta tb e
 
   -- the region of the field
   of_source : (s : Scope) (r : Name) → Region s r → term_in (bound_to s.names r).static_type ≡ place.Name (bound_to s.names r).number
   of_source s r h = kept_term keeping m s.names r (bound_to s.names r).number (bound_to s.names r).static_type h.kept h.region
 
   -- the points that a field names at those of a partition
-  pub image_local : (s : Scope) (line : ℕ) (n a p r f : Name) → is_local_form m (var_form n None (Some (image_initializer a p r f))) ≡ true →
-      IsSoundScope s → Ready s → first_of_form tree task s (var_form n None (Some (image_initializer a p r f))) ≡ None →
-      Starts s line n (image_initializer a p r f)
-  image_local s line n a p r f lo scope names e =
+  pub image_local : (s : Scope) (line : ℕ) (n : Name) (st : Option TypeTerm) (a p r f : Name) → is_among m.partitions n ≡ true →
+      IsSoundScope s → Ready s → first_of_form tree task s (var_form n st (Some (image_initializer a p r f))) ≡ None →
+      Starts s line n st (image_initializer a p r f)
+  image_local s line n st a p r f lo scope names e =
       let i = image_initializer a p r f in
-      let parts = told_of_form tree task s sound scope (var_form n None (Some i)) e in
+      let parts = told_of_form tree task s sound scope (var_form n st (Some i)) e in
       let u = untold handing keeping tree task sound sound_task m local params result keeps s i (option_or_parts (first_of_initializer tree task s i) _ parts.3).0 in
       let are = mapped s line a p r f scope names u.names u.reads in
       let t = (bound_to s.names p).static_type in
@@ -131,27 +125,25 @@ module _ (handing keeping : Bool) (tree : Tree) (task : TaskTree) (sound : IsSou
       let parent = region_of_number s.next s.names (parent_of t) scope.numbers among in
       let inside = within_told s.known (parent_of t) v are.source.region (parent_told s.known t v are.cut.partition
       (or_parts (parent_is_outside s.known t v) (not (tells_points (known_field tree v f))) u.partitions).0) in
-      let below = lies_below handing (hands (keeps n lo)) s names (parent_of t) (bound_to s.names r).number (bound_as s.names (parent_of t)) (bound_to s.names r) refl
+      let below = lies_below handing (hands (keeps n lo)) s line scope names (parent_of t) (bound_to s.names r).number (bound_as s.names (parent_of t)) (bound_to s.names r) refl
       (found_by_number s.next s.names r scope.numbers are.source.there).0 parent.1 (of_source s r are.source)
-      (subst (λ w. is_subregion s.known (place.Name (parent_of t)) w ≡ true) (of_source s r are.source) inside) in (
-        (
-          keeps n lo,
-          record { named = are.parent.there; numbers = scope.numbers; region = are.parent.region },
-          record { named = are.cut.there; numbers = scope.numbers; partition = are.cut.partition },
-          are.scan,
-          below,
-        ),
-        cut_kept handing keeping tree task sound sound_task m local params result keeps s n a image_flag are.parent lo,
-        head_cut tree task s n image_flag (bound_to s.names a).number scope.numbers names.head.facts,
+      (subst (λ w. is_subregion s.known (place.Name (parent_of t)) w ≡ true) (of_source s r are.source) inside) in
+      cut_begun handing keeping tree task sound sound_task m local params result keeps s line n st i image_flag (bound_to s.names a).number lo scope names e refl refl
+      (region_there handing keeping tree task sound sound_task m local params result keeps s a are.parent) parts.4 (
+        keeps n lo,
+        record { named = are.parent.there; numbers = scope.numbers; region = are.parent.region },
+        record { named = are.cut.there; numbers = scope.numbers; partition = are.cut.partition },
+        are.scan,
+        below,
       )
 
   -- the points at which a field names those of a partition
-  pub preimage_local : (s : Scope) (line : ℕ) (n a p r f : Name) → is_local_form m (var_form n None (Some (preimage_initializer a p r f))) ≡ true →
-      IsSoundScope s → Ready s → first_of_form tree task s (var_form n None (Some (preimage_initializer a p r f))) ≡ None →
-      Starts s line n (preimage_initializer a p r f)
-  preimage_local s line n a p r f lo scope names e =
+  pub preimage_local : (s : Scope) (line : ℕ) (n : Name) (st : Option TypeTerm) (a p r f : Name) → is_among m.partitions n ≡ true →
+      IsSoundScope s → Ready s → first_of_form tree task s (var_form n st (Some (preimage_initializer a p r f))) ≡ None →
+      Starts s line n st (preimage_initializer a p r f)
+  preimage_local s line n st a p r f lo scope names e =
       let i = preimage_initializer a p r f in
-      let parts = told_of_form tree task s sound scope (var_form n None (Some i)) e in
+      let parts = told_of_form tree task s sound scope (var_form n st (Some i)) e in
       let u = untold handing keeping tree task sound sound_task m local params result keeps s i (option_or_parts (first_of_initializer tree task s i) _ parts.3).0 in
       let are = mapped s line a p r f scope names u.names u.reads in
       let b = bound_to s.names a in
@@ -161,17 +153,15 @@ module _ (handing keeping : Bool) (tree : Tree) (task : TaskTree) (sound : IsSou
       (ap not (region_known b.static_type are.parent.region)) in
       let inside = within_told s.known b.number v are.source.region (and_then (names_a is_region s.names a && not (is_unknown_type b.static_type)) (is_outside s.known b.number v) named
       (or_parts (names_a is_region s.names a && not (is_unknown_type b.static_type) && is_outside s.known b.number v) (not (tells_points (known_field tree v f))) u.partitions).0) in
-      let below = lies_below handing (hands (keeps n lo)) s names b.number (bound_to s.names r).number b (bound_to s.names r)
+      let below = lies_below handing (hands (keeps n lo)) s line scope names b.number (bound_to s.names r).number b (bound_to s.names r)
       (found_by_number s.next s.names a scope.numbers are.parent.there).0 (found_by_number s.next s.names r scope.numbers are.source.there).0
       (of_source s a are.parent) (of_source s r are.source)
-      (subst (λ w. is_subregion s.known (place.Name b.number) w ≡ true) (of_source s r are.source) inside) in (
-        (
-          keeps n lo,
-          record { named = are.parent.there; numbers = scope.numbers; region = are.parent.region },
-          record { named = are.cut.there; numbers = scope.numbers; partition = are.cut.partition },
-          are.scan,
-          below,
-        ),
-        cut_kept handing keeping tree task sound sound_task m local params result keeps s n a d are.parent lo,
-        head_cut tree task s n d b.number scope.numbers names.head.facts,
+      (subst (λ w. is_subregion s.known (place.Name b.number) w ≡ true) (of_source s r are.source) inside) in
+      cut_begun handing keeping tree task sound sound_task m local params result keeps s line n st i d b.number lo scope names e refl refl
+      (region_there handing keeping tree task sound sound_task m local params result keeps s a are.parent) parts.4 (
+        keeps n lo,
+        record { named = are.parent.there; numbers = scope.numbers; region = are.parent.region },
+        record { named = are.cut.there; numbers = scope.numbers; partition = are.cut.partition },
+        are.scan,
+        below,
       )

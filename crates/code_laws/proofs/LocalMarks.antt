@@ -14,7 +14,7 @@ use Rattle.regent_tree.specs.declared.types.Param.{Param}
 use Rattle.regent_tree.specs.declared.types.TypeTerm.{TypeTerm}
 use Rattle.regent_tree.specs.declared.types.TypeTerm.TheVariants as term
 use Rattle.check_laws.proofs.Parameters.{place_step}
-use Rattle.local_form.specs.LocalForm.{Marked, are_local_fields, are_scalar_params, gives_pointer, gives_scalar, is_among, is_difference, is_index_or_space, is_index_term, is_local_field, is_partition_term, is_pointer_term, gives_points, is_region_term, marked_by, marked_by_arms, marked_by_else, marked_by_item, marked_by_items, marked_by_task, marked_by_term, marked_field, marked_fields, marked_in, marked_param, marked_params, unmarked, with_either, with_index, with_index_field, with_partition, with_pointer, with_pointer_field, with_region}
+use Rattle.local_form.specs.LocalForm.{Marked, are_local_fields, are_scalar_params, gives_pointer, gives_scalar, is_among, is_difference, is_index_or_space, is_index_term, is_local_field, is_partition_term, is_pointer_term, gives_points, is_region_term, marked_by, marked_by_arms, marked_by_else, marked_by_item, marked_by_items, marked_by_task, marked_by_term, marked_field, marked_fields, marked_in, marked_param, marked_params, takes_part, unmarked, with_either, with_index, with_index_field, with_part, with_partition, with_pointer, with_pointer_field, with_region}
 use Rattle.code_laws.proofs.LocalFields.{FieldMarks, field_pointer, fields_of, IsFieldTerm, field_index, field_scalar}
 use Rattle.code_laws.proofs.Typing.{no_way_back}
 use Rattle.scalar_form.specs.ScalarForm.{is_scalar_term}
@@ -41,12 +41,13 @@ either_fields true n m = refl
 either_fields false n m = refl
 
 value_fields : (k : Name) (e : Expression) (m : Marked) → Fields (marked_by (var_form k None (Some (plain_initializer e))) m) ≡ Fields m
-value_fields k e m = apart (is_difference m e) (gives_scalar m e)
+value_fields k e m = apart (is_difference m e) (takes_part m e) (gives_scalar m e)
   where
-    apart : (b c : Bool) → Fields (cond b (with_partition k m) (cond c m (with_either (gives_pointer m e) k m))) ≡ Fields m
-    apart true c = refl
-    apart false true = refl
-    apart false false = either_fields (gives_pointer m e) k m
+    apart : (b d c : Bool) → Fields (cond b (with_partition k m) (cond d (with_part k m) (cond c m (with_either (gives_pointer m e) k m)))) ≡ Fields m
+    apart true d c = refl
+    apart false true c = refl
+    apart false false true = refl
+    apart false false false = either_fields (gives_pointer m e) k m
 
 term_fields : (k : Name) (t : TypeTerm) (m : Marked) → Fields (marked_by_term k t m) ≡ Fields m
 term_fields k (term.Number (number.Index j)) m = refl

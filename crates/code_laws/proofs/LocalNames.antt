@@ -5,7 +5,7 @@ use Rattle.std.proofs.lemmas.Bool.{not-true, or_parts}
 use Rattle.std.proofs.lemmas.Slice.Eq.{bytes_eq-Decides}
 use Rattle.regent_tree.specs.Lookup.{has_field, has_task, is_bound}
 use Rattle.regent_tree.specs.Scopes.{bound_as, bound_to, scope_of}
-use Rattle.code_laws.specs.Pointers.{AllGoBack}
+use Rattle.code_laws.specs.Pointers.{AllGoToParams}
 use Rattle.regent_tree.proofs.Members.{Has}
 use Rattle.regent_tree.specs.StaticTypes.{Reach, field_place, field_term, space_at, task_named}
 use Rattle.regent_tree.specs.Syntax.{Name, TaskTree, Tree}
@@ -47,14 +47,14 @@ pub record IsAlone (tree : Tree) (t : TaskTree) : Type 0 where
   pub needs : (task_code tree t).needs ≡ []
   pub params : AreScalars (param_types tree t)
 
--- a task that is called takes numbers, truths, regions, indices, index spaces and pointers, which go to parameters before them, and gives
+-- a task that is called takes numbers, truths, regions, indices, index spaces and pointers, which go to parameters, and gives
 -- numbers and truths
 pub record IsLocalTask (handing keeping : Bool) (tree : Tree) (n : Name) : Type 0 where
   pub stands : StandsIn tree (task_named tree n)
   pub called : slice_get (tasks_of tree) (place_of_task tree n) ≡ Some (task_named tree n)
   pub params : AreTakable keeping (param_types tree (task_named tree n))
   pub result : is_scalar_if_said (task_named tree n).result ≡ true
-  pub back : AllGoBack (scope_of tree (task_named tree n)).names
+  pub goals : AllGoToParams (scope_of tree (task_named tree n)).names
   pub alone : handing ≡ false → IsAlone tree (task_named tree n)
 
 -- Fields are numbers and truths, or indices or pointers and marked so, few, and each has a name of its own; their pointers go
@@ -70,7 +70,7 @@ pub record IsLocalTree (handing keeping : Bool) (m : Marked) (tree : Tree) : Typ
 -- ---- names
 
 -- A name is bound with a number to a number or truth; or to an index, an index space or a pointer, and is marked so; or
--- to the region or the partition of that number, and is marked so. A pointer goes to regions that were bound before, and a
+-- to the region or the partition of that number, and is marked so. A pointer goes to regions among some names, and a
 -- partition is of one.
 pub data IsKept (keeping : Bool) (m : Marked) (bs : List Bound) (n : Name) (i : ℕ) : StaticType → Type 0 where
   kept_scalar : (t : StaticType) → IsScalar t → IsKept keeping m bs n i t
@@ -81,9 +81,12 @@ pub data IsKept (keeping : Bool) (m : Marked) (bs : List Bound) (n : Name) (i : 
   kept_partition : (d : Bool) (r : ℕ) → keeping ≡ true → IsRegionAmong bs r → is_among m.partitions n ≡ true →
       IsKept keeping m bs n i (partition_type d r i)
 
+abbrev pub AllKeptIn : Bool → Marked → List Bound → List Bound → Type 0
+AllKeptIn keeping m all [] = Unit {0}
+AllKeptIn keeping m all (b ∷ bs) = IsKept keeping m all b.name b.number b.static_type × AllKeptIn keeping m all bs
+
 abbrev pub AllKept : Bool → Marked → List Bound → Type 0
-AllKept keeping m [] = Unit {0}
-AllKept keeping m (b ∷ bs) = IsKept keeping m bs b.name b.number b.static_type × AllKept keeping m bs
+AllKept keeping m bs = AllKeptIn keeping m bs bs
 
 module _ (keeping : Bool) (m : Marked) where
   kept_behind_one : (b : Bound) (bs : List Bound) (n : Name) (i : ℕ) (t : StaticType) → IsKept keeping m bs n i t → IsKept keeping m (b ∷ bs) n i t
@@ -98,17 +101,28 @@ module _ (keeping : Bool) (m : Marked) where
   kept_before bs more n i _ (kept_region k sp args h) = kept_region k sp args h
   kept_before bs more n i _ (kept_partition d r q a h) = kept_partition d r q (region_before bs more r a) h
 
-  pub named_kept : (bs : List Bound) (n : Name) → AllKept keeping m bs → is_bound bs n ≡ true →
-      IsKept keeping m bs n (bound_to bs n).number (bound_to bs n).static_type
-  named_kept [] n a h = absurd (no_way_back h)
-  named_kept (b ∷ bs) n a h = chosen (bytes_eq b.name n) refl (named_kept bs n a.1) h
+  -- one more name
+  all_behind_one : (c : Bound) (all bs : List Bound) → AllKeptIn keeping m all bs → AllKeptIn keeping m (c ∷ all) bs
+  all_behind_one c all [] a = tt
+  all_behind_one c all (b ∷ bs) a = (kept_behind_one c all b.name b.number b.static_type a.0, all_behind_one c all bs a.1)
+
+  pub kept_more : (b : Bound) (bs : List Bound) → IsKept keeping m bs b.name b.number b.static_type → AllKept keeping m bs → AllKept keeping m (b ∷ bs)
+  kept_more b bs k a = (kept_behind_one b bs b.name b.number b.static_type k, all_behind_one b bs bs a)
+
+  named_in : (all bs : List Bound) (n : Name) → AllKeptIn keeping m all bs → is_bound bs n ≡ true →
+      IsKept keeping m all n (bound_to bs n).number (bound_to bs n).static_type
+  named_in all [] n a h = absurd (no_way_back h)
+  named_in all (b ∷ bs) n a h = chosen (bytes_eq b.name n) refl (named_in all bs n a.1) h
     where
       chosen : (c : Bool) → bytes_eq b.name n ≡ c →
-          (is_bound bs n ≡ true → IsKept keeping m bs n (bound_to bs n).number (bound_to bs n).static_type) → (c || is_bound bs n) ≡ true →
-          IsKept keeping m (b ∷ bs) n (cond c b (bound_to bs n)).number (cond c b (bound_to bs n)).static_type
-      chosen true q more e = kept_behind_one b bs n b.number b.static_type
-          (subst (λ x. IsKept keeping m bs x b.number b.static_type) ((bytes_eq-Decides b.name n).0 q) a.0)
-      chosen false q more e = kept_behind_one b bs n (bound_to bs n).number (bound_to bs n).static_type (more e)
+          (is_bound bs n ≡ true → IsKept keeping m all n (bound_to bs n).number (bound_to bs n).static_type) → (c || is_bound bs n) ≡ true →
+          IsKept keeping m all n (cond c b (bound_to bs n)).number (cond c b (bound_to bs n)).static_type
+      chosen true q more e = subst (λ x. IsKept keeping m all x b.number b.static_type) ((bytes_eq-Decides b.name n).0 q) a.0
+      chosen false q more e = more e
+
+  pub named_kept : (bs : List Bound) (n : Name) → AllKept keeping m bs → is_bound bs n ≡ true →
+      IsKept keeping m bs n (bound_to bs n).number (bound_to bs n).static_type
+  named_kept bs n a h = named_in bs bs n a h
 
   module _ (bs : List Bound) (n : Name) (i : ℕ) where
     apart_from : not (is_kept_apart m n) ≡ true → (is_among m.regions n ≡ false) × (is_among m.partitions n ≡ false)

@@ -21,7 +21,7 @@ use Rattle.regent_tree.specs.declared.types.TypeTerm.{TypeTerm}
 use Rattle.regent_tree.specs.declared.types.TypeTerm.TheVariants as term
 use Rattle.regent_tree.specs.declared.typing.Bound.{Bound}
 use Rattle.regent_tree.specs.declared.typing.StaticType.{StaticType}
-use Rattle.regent_tree.specs.declared.typing.StaticType.TheVariants.{Index as index_type}
+use Rattle.regent_tree.specs.declared.typing.StaticType.TheVariants.{Index as index_type, Ispace as ispace_type}
 use Rattle.check_laws.proofs.Parts.{unless_false}
 use Rattle.check_laws.specs.SoundScopes.{IsSoundScope}
 use Rattle.check_rules.proofs.Untold.{rule_none}
@@ -41,9 +41,9 @@ use Rattle.check_rules.specs.types.KnownTypes.{known_type}
 use Rattle.check_rules.specs.types.Lookup.{names_a}
 use Rattle.check_rules.specs.types.Sorts.{may_be, same_kind}
 use Rattle.code_rules.specs.Slots.{Where, typed}
-use Rattle.local_form.specs.LocalForm.{Marked, goes_to_name, goes_to_names, is_among, is_kept_term, takes_element}
+use Rattle.local_form.specs.LocalForm.{Marked, goes_to_name, goes_to_names, is_among, is_kept_term, is_said_term, takes_element}
 use Rattle.code_laws.specs.Handing.{forms_by}
-use Rattle.code_laws.specs.Pointers.{AreThere, BeginsAs, BeginsWith, GoesInto, IsPointer, IsWritten, a_pointer_type, begins_plain, begins_pointer, fills_index, into_index, into_plain, itself_null, itself_plain, zero_index}
+use Rattle.code_laws.specs.Pointers.{AreThere, BeginsAs, BeginsWith, GoesInto, IsPointer, IsWritten, a_pointer_type, begins_plain, begins_pointer, fills_index, into_index, into_plain, into_space, itself_null, itself_plain, zero_index}
 use Rattle.code_laws.specs.Simple.{IsScalar, number_index, number_integer, scalar_truth, simple_index, simple_integer, simple_space, simple_truth}
 use Rattle.code_laws.specs.Steps.{Forms}
 use Rattle.code_laws.proofs.KnownHeads.{KnowsHead}
@@ -166,33 +166,52 @@ index_goes b bs known _ k (value_simple _ simple_truth) e = absurd (no_way_back 
 index_goes b bs known _ k (value_simple _ (simple_space j)) e = absurd (no_way_back e)
 index_goes b bs known _ k (value_pointer j sp args i h r) e = into_index j sp args _ k
 
+space_goes : (b : Bool) (bs : List Bound) (known : List Known) (from : StaticType) (k : Kind) → IsValue b bs from → fits known from (ispace_type k) ≡ true →
+    GoesInto from (ispace_type k)
+space_goes b bs known _ k (value_simple _ (simple_space j)) e = into_space j k
+space_goes b bs known _ k (value_simple _ (simple_integer w)) e = absurd (no_way_back e)
+space_goes b bs known _ k (value_simple _ (simple_index j)) e = absurd (no_way_back e)
+space_goes b bs known _ k (value_simple _ simple_truth) e = absurd (no_way_back e)
+space_goes b bs known _ k (value_pointer j sp args i h r) e = absurd (no_way_back e)
+
+-- what begins by itself may begin with an expression
+pub kept_said : (m : Marked) (n : Name) (t : TypeTerm) → is_kept_term m n t ≡ true → is_said_term m n t ≡ true
+kept_said m n (term.Number number.Int32) e = e
+kept_said m n (term.Number number.Int64) e = e
+kept_said m n (term.Number (number.Index k)) e = e
+kept_said m n term.Truth e = e
+kept_said m n (term.Pointer p) e = e
+kept_said m n (term.Ispace k) e = absurd (no_way_back e)
+kept_said m n (term.Region k u) e = absurd (no_way_back e)
+kept_said m n (term.Partition d r c) e = absurd (no_way_back e)
+
 module _ (keeping : Bool) (m : Marked) (keeps : m.keeps ≡ true → keeping ≡ true) (tree : Tree) (s : Scope) (scope : IsSoundScope s) (names : AllKept keeping m s.names) where
-  -- a variable of a written type: what it is, and how it begins, by itself or with what fits
-  pub record IsVariable (n : Name) (u : StaticType) : Type 0 where
+  -- a variable of a written type: what it is, and how it begins, by itself where it may, or with what fits
+  pub record IsVariable (n : Name) (t : TypeTerm) (u : StaticType) : Type 0 where
     pub value : IsValue keeping s.names u
     pub kept : IsKept keeping m s.names n s.next u
-    pub itself : BeginsAs keeping s.names u
+    pub itself : is_kept_term m n t ≡ true → BeginsAs keeping s.names u
     pub begins : (from : StaticType) → IsValue keeping s.names from → fits s.known from u ≡ true → BeginsWith keeping s.names from u
 
-  scalar_variable : (n : Name) (u : StaticType) → IsScalar u → IsVariable n u
-  scalar_variable n u a = record {
+  scalar_variable : (n : Name) (t : TypeTerm) (u : StaticType) → IsScalar u → IsVariable n t u
+  scalar_variable n t u a = record {
     value = value_simple u (scalar_simple u a);
     kept = kept_scalar u a;
-    itself = scalar_begins keeping s.names u a;
+    itself = λ h. scalar_begins keeping s.names u a;
     begins = λ from v e. alike_begins keeping s.names from u (value_fitting keeping s.names s.known from u v a e);
   }
 
-  pub variable_said : (n : Name) (t : TypeTerm) → is_kept_term m n t ≡ true → first_in_type tree s.names t ≡ None →
-      IsVariable n (type_said tree (in_scope s) s.next t)
-  variable_said n (term.Number number.Int32) lo e = scalar_variable n _ (term_scalar (term.Number number.Int32) refl tree (in_scope s) s.next)
-  variable_said n (term.Number number.Int64) lo e = scalar_variable n _ (term_scalar (term.Number number.Int64) refl tree (in_scope s) s.next)
-  variable_said n term.Truth lo e = scalar_variable n _ scalar_truth
+  pub variable_said : (n : Name) (t : TypeTerm) → is_said_term m n t ≡ true → first_in_type tree s.names t ≡ None →
+      IsVariable n t (type_said tree (in_scope s) s.next t)
+  variable_said n (term.Number number.Int32) lo e = scalar_variable n _ _ (term_scalar (term.Number number.Int32) refl tree (in_scope s) s.next)
+  variable_said n (term.Number number.Int64) lo e = scalar_variable n _ _ (term_scalar (term.Number number.Int64) refl tree (in_scope s) s.next)
+  variable_said n term.Truth lo e = scalar_variable n _ _ scalar_truth
   variable_said n (term.Number (number.Index k)) lo e =
       let both = and_parts m.keeps (is_among m.indices n) lo in
       let value = value_simple (index_type k) (simple_index k) in record {
         value = value;
         kept = kept_value (index_type k) value both.1 (λ p. absurd (no_way_back p));
-        itself = subst (λ b. BeginsAs b s.names (index_type k)) (sym (keeps both.0)) (itself_plain (index_type k) (zero_index k));
+        itself = λ h. subst (λ b. BeginsAs b s.names (index_type k)) (sym (keeps both.0)) (itself_plain (index_type k) (zero_index k));
         begins = λ from v fit. subst (λ b. BeginsWith b s.names from (index_type k)) (sym (keeps both.0))
             (begins_plain from (index_type k) (index_goes keeping s.names s.known from k v fit));
       }
@@ -203,18 +222,26 @@ module _ (keeping : Bool) (m : Marked) (keeps : m.keeps ≡ true → keeping ≡
       let is = pointer_said keeping m keeps tree s scope names p one.0 e in record {
         value = is.value;
         kept = kept_value u is.value two.0 (λ q. two.1);
-        itself = subst (λ b. BeginsAs b s.names u) (sym is.keep) (itself_null u is.written);
+        itself = λ h. subst (λ b. BeginsAs b s.names u) (sym is.keep) (itself_null u is.written);
         begins = λ from v fit. subst (λ b. BeginsWith b s.names from u) (sym is.keep)
             (begins_pointer from u (pointer_fitting keeping s.names s.known from u v is.written.0 fit) is.written);
       }
-  variable_said n (term.Ispace k) lo e = absurd (no_way_back lo)
+  variable_said n (term.Ispace k) lo e =
+      let both = and_parts m.keeps (is_among m.indices n) lo in
+      let value = value_simple (ispace_type k) (simple_space k) in record {
+        value = value;
+        kept = kept_value (ispace_type k) value both.1 (λ p. absurd (no_way_back p));
+        itself = λ h. absurd (no_way_back h);
+        begins = λ from v fit. subst (λ b. BeginsWith b s.names from (ispace_type k)) (sym (keeps both.0))
+            (begins_plain from (ispace_type k) (space_goes keeping s.names s.known from k v fit));
+      }
   variable_said n (term.Region k u) lo e = absurd (no_way_back lo)
   variable_said n (term.Partition d r c) lo e = absurd (no_way_back lo)
 
 -- ---- expressions
 
 module _ (handing keeping : Bool) (task : TaskTree) (w : Where) (sound : IsSound w.tree) (sound_task : IsSoundTask w.tree task) (m : Marked)
-    (local : IsLocalTree handing keeping m w.tree) (scope : IsSoundScope w.scope) (names : AllKept keeping m w.scope.names) (head : KnowsHead w.tree task w.scope) where
+    (local : IsLocalTree handing keeping m w.tree) (scope : IsSoundScope w.scope) (names : AllKept keeping m w.scope.names) (head : KnowsHead m w.tree task w.scope) where
   abbrev forms : Forms
   forms = forms_by handing keeping w.tree task
 

@@ -39,7 +39,7 @@ use Rattle.code_laws.specs.Simple.{IsPartition, IsRegion, a_partition_type, a_re
 use Rattle.code_laws.specs.Typed.{GoesThrough, IsFieldOf, element_field}
 use Rattle.code_laws.specs.Pointers.{IsPointer, a_pointer_type}
 use Rattle.code_laws.proofs.LocalFields.{IsHeld, held_field, term_held}
-use Rattle.code_laws.proofs.LocalValues.{AreAmong, IsValue, names_among, value_is_no_region, value_pointer, value_simple, AreGoals, goals_aims}
+use Rattle.code_laws.proofs.LocalValues.{AreAmong, IsRegionAmong, IsValue, names_among, value_is_no_region, value_pointer, value_simple, AreGoals, goals_aims}
 use Rattle.code_laws.proofs.LocalTypes.{simple_is_no_region}
 use Rattle.code_laws.proofs.Typing.{no_way, no_way_back}
 use Rattle.code_laws.proofs.Typing.{first_below}
@@ -55,7 +55,7 @@ use Rattle.check_rules.specs.types.Declarations.{is_no_field_type}
 use Rattle.value_laws.specs.Spaces.{AreArgumentsOf, AreSpaced, IsSpaced, NamesRegionOf}
 use Rattle.value_laws.proofs.Spaced.{field_regions, field_spaced}
 use Rattle.code_laws.proofs.LocalFields.{FieldMarks, fields_of}
-use Rattle.code_laws.proofs.LocalNames.{AllKept, IsKept, IsLocalTree, kept_partition, kept_region, kept_scalar, kept_value, region_of_number, value_no_region}
+use Rattle.code_laws.proofs.LocalNames.{AllKept, AllKeptIn, IsKept, IsLocalTree, kept_partition, kept_region, kept_scalar, kept_value, region_of_number, value_no_region}
 
 -- ---- the regions of fields' pointers
 
@@ -76,35 +76,45 @@ value_plain keeping bs _ (value_simple _ (simple_space k)) = refl
 value_plain keeping bs _ (value_simple _ (simple_index k)) = refl
 value_plain keeping bs _ (value_pointer k sp args j q r) = refl
 
-module _ (keeping : Bool) (m : Marked) (bs : List Bound) (names : AllKept keeping m bs) where
-  -- what is kept and is a region has its own term
-  own_term : (c : List Bound) (n : Name) (i : ℕ) (t : StaticType) → IsKept keeping m c n i t → is_region t ≡ true → IsRegion t × (term_in t ≡ place.Name i)
-  own_term c n i t (kept_scalar _ a) e = absurd (no_way (sym e ∙ value_plain keeping c t (value_simple t (scalar_simple t a))))
-  own_term c n i t (kept_value _ a h p) e = absurd (no_way (sym e ∙ value_plain keeping c t a))
-  own_term c n i _ (kept_region k sp args h) e = (a_region_type k sp args (place.Name i), refl)
-  own_term c n i _ (kept_partition d r q a h) e = absurd (no_way_back e)
+-- a region that is bound has its own term
+abbrev pub HaveOwnTerms : List Bound → Type 0
+HaveOwnTerms bs = (b : Bound) → Has bs b → is_region b.static_type ≡ true → IsRegion b.static_type × (term_in b.static_type ≡ place.Name b.number)
 
-  pub own_among : (c : List Bound) (b : Bound) → AllKept keeping m c → Has c b → is_region b.static_type ≡ true →
-      IsRegion b.static_type × (term_in b.static_type ≡ place.Name b.number)
-  own_among [] b a h e = absurd h
-  own_among (d ∷ c) b a (inl same) e =
-      subst (λ (b : Bound). IsRegion b.static_type × (term_in b.static_type ≡ place.Name b.number)) same
-      (own_term c d.name d.number d.static_type a.0 (ap (λ (b : Bound). is_region b.static_type) same ∙ e))
-  own_among (d ∷ c) b a (inr h) e = own_among c b a.1 h e
+module _ (bs : List Bound) (own : HaveOwnTerms bs) where
+  -- a region that is named by its number
+  pub numbered_among : (i : ℕ) → is_region (bound_as bs i).static_type ≡ true → IsRegionAmong bs i
+  numbered_among i e =
+      let f = region_numbered bs i e in
+      let is = own (bound_as bs i) f.0 e in
+      record { named = bound_as bs i; among = f.0; number = f.1; region = is.0; term = is.1 ∙ ap (λ k. place.Name k) f.1 }
 
   -- regions that are named by their numbers, of a field space
-  pub named_among : (sp : ℕ) (rs : List Reach) → All (NamesRegionOf bs sp) rs → AreAmong bs sp rs
-  named_among sp [] a = tt
-  named_among sp (None ∷ rs) a = named_among sp rs (All-tail (NamesRegionOf bs sp) None rs a)
-  named_among sp (Some (place.Child p c) ∷ rs) a = absurd (All-head (NamesRegionOf bs sp) (Some (place.Child p c)) rs a)
-  named_among sp (Some (place.Name i) ∷ rs) a =
-      let h = All-head (NamesRegionOf bs sp) (Some (place.Name i)) rs a in
-      let f = region_numbered bs i h.region in
-      let own = own_among bs (bound_as bs i) names f.0 h.region in (
-        record { named = bound_as bs i; among = f.0; number = f.1; region = own.0; term = own.1 ∙ ap (λ k. place.Name k) f.1 },
+  pub regions_among : (sp : ℕ) (rs : List Reach) → All (NamesRegionOf bs sp) rs → AreAmong bs sp rs
+  unfolding numbered_among
+  regions_among sp [] a = tt
+  regions_among sp (None ∷ rs) a = regions_among sp rs (All-tail (NamesRegionOf bs sp) None rs a)
+  regions_among sp (Some (place.Child p c) ∷ rs) a = absurd (All-head (NamesRegionOf bs sp) (Some (place.Child p c)) rs a)
+  regions_among sp (Some (place.Name i) ∷ rs) a =
+      let h = All-head (NamesRegionOf bs sp) (Some (place.Name i)) rs a in (
+        numbered_among i h.region,
         h.of_space,
-        named_among sp rs (All-tail (NamesRegionOf bs sp) (Some (place.Name i)) rs a),
+        regions_among sp rs (All-tail (NamesRegionOf bs sp) (Some (place.Name i)) rs a),
       )
+
+module _ (keeping : Bool) (m : Marked) (all : List Bound) where
+  -- what is kept and is a region has its own term
+  own_term : (n : Name) (i : ℕ) (t : StaticType) → IsKept keeping m all n i t → is_region t ≡ true → IsRegion t × (term_in t ≡ place.Name i)
+  own_term n i t (kept_scalar _ a) e = absurd (no_way (sym e ∙ value_plain keeping all t (value_simple t (scalar_simple t a))))
+  own_term n i t (kept_value _ a h p) e = absurd (no_way (sym e ∙ value_plain keeping all t a))
+  own_term n i _ (kept_region k sp args h) e = (a_region_type k sp args (place.Name i), refl)
+  own_term n i _ (kept_partition d r q a h) e = absurd (no_way_back e)
+
+  kept_own : (bs : List Bound) → AllKeptIn keeping m all bs → HaveOwnTerms bs
+  kept_own [] a b h e = absurd h
+  kept_own (d ∷ bs) a b (inl same) e =
+      subst (λ (b : Bound). IsRegion b.static_type × (term_in b.static_type ≡ place.Name b.number)) same
+      (own_term d.name d.number d.static_type a.0 (ap (λ (b : Bound). is_region b.static_type) same ∙ e))
+  kept_own (d ∷ bs) a b (inr h) e = kept_own bs a.1 b h e
 
 -- what a field holds, and to which regions its pointers go
 pub record IsFound (keeping : Bool) (marked : FieldMarks) (tree : Tree) (bs : List Bound) (sp : ℕ) (args : List Reach) (f : Name) : Type 0 where
@@ -120,7 +130,8 @@ module _ (handing keeping : Bool) (tree : Tree) (sound : IsSound tree) (m : Mark
       let term = field_term tree sp (field_place tree sp f) in
       let t = field_type tree sp args f in
       let flawless = (or_parts (is_no_field_type term) _ (sound.fields sp f there)).0 in
-      let among = named_among keeping m bs names (space_in t) (reaches_of t) (field_regions tree bs sp args are f local.declared there flawless) in
+      let among = regions_among bs (kept_own keeping m bs bs names) (space_in t) (reaches_of t)
+      (field_regions tree bs sp args are f local.declared there flawless) in
       let spaced = field_spaced tree bs sp args are f local.declared there flawless in record {
         held = term_held keeping (fields_of m) f term (local.fields sp f there) tree (among_args (space_at tree sp).params args) 0
             (names_among bs (space_in t) (reaches_of t) among) spaced.few;

@@ -10,7 +10,7 @@ use Rattle.regent_tree.specs.Limits.{parts_of_block, parts_of_item, parts_of_par
 use Rattle.regent_tree.specs.Scopes.{scope_of}
 use Rattle.regent_tree.specs.StaticTypes.{entry_name, task_named}
 use Rattle.regent_tree.specs.Syntax.{ItemTree, Name, TaskTree, Tree, space_item, task_item}
-use Rattle.regent_tree.specs.Typing.{param_types, result_type, width_of_type}
+use Rattle.regent_tree.specs.Typing.{param_types, result_type, scope_after_block, width_of_type}
 use Rattle.regent_tree.specs.declared.program.FieldSpace.{FieldSpace}
 use Rattle.regent_tree.specs.declared.types.TypeTerm.{TypeTerm}
 use Rattle.regent_tree.specs.declared.typing.StaticType.{StaticType}
@@ -22,7 +22,8 @@ use Rattle.code_rules.specs.Programs.{task_code}
 use Rattle.state_laws.proofs.Texts.{body_begins}
 use Rattle.code_laws.proofs.LocalFields.{fields_of}
 use Rattle.code_laws.proofs.LocalSpaced.{params_placed}
-use Rattle.code_laws.specs.Handing.{AreTypedBy, forms_by}
+use Rattle.code_laws.specs.Handing.{AreTypedBy, forms_by, told_in}
+use Rattle.code_laws.proofs.Told.{all_told, block_grows, told_before}
 use Rattle.local_form.specs.LocalForm.{Marked, are_local_params, are_scalar_params, is_among, is_local_block, is_local_with, marked_by_task}
 use Rattle.code_laws.specs.Simple.{IsInteger, an_integer}
 use Rattle.code_laws.specs.LocalPrograms.{AcceptedProgramsEndWell, AcceptedProgramsRunAsMeant, IsKeptProgramRun, IsLocalProgramRun, IsPlainProgramRun, has_no_pointer, keeps_nothing, takes_scalars, without_keeping}
@@ -30,7 +31,7 @@ use Rattle.code_laws.specs.Programs.{AreTypedTasks, IsGiven, IsTypedRun, call_fo
 use Rattle.code_laws.proofs.LocalBlocks.{block_local}
 use Rattle.code_laws.proofs.DeclaredNeeds.{needs_none}
 use Rattle.code_laws.proofs.KnownHeads.{IsReady, head_begins}
-use Rattle.code_laws.proofs.LocalParams.{behind_all}
+use Rattle.code_laws.proofs.LocalParams.{params_among}
 use Rattle.code_laws.proofs.LocalTells.{params_tell}
 use Rattle.code_laws.proofs.LocalTrees.{IsHead, IsOfForm, TakesScalars, begins_kept, local_tree, item_of_form, item_stands, task_stands}
 use Rattle.code_laws.proofs.LocalTypes.{term_scalar}
@@ -125,16 +126,18 @@ module _ (handing keeping : Bool) (tree : Tree) (inputs : List ℤ) (p : IsLocal
       let ready : IsReady keeping tree t k.marks (scope_of tree t) =
       record {
         names = begins_kept keeping tree t k.marks k.regions k.params k.assigns
-            (behind_all tree t p.accepted p.within (item_stands tree item s.1 t s.2) is.back);
+            (params_among tree t p.accepted p.within (item_stands tree item s.1 t s.2));
         head = record {
           facts = head_begins tree t told.sound_task (params_tell tree t told.scope.numbers);
           spaced = body_begins tree p.accepted p.within t (item_stands tree item s.1 t s.2);
           placed = params_placed tree t;
+          told = told_before (told_in tree t) (scope_of tree t) (scope_after_block tree (scope_of tree t) t.body) (block_grows tree (scope_of tree t) t.body)
+              (all_told (scope_after_block tree (scope_of tree t) t.body));
         };
       } in record {
         given = given_scalar tree t.result is.result;
         typed = (block_local handing keeping tree t told.sound told.sound_task k.marks local k.keeps hands (length t.params) is.result (scope_of tree t) 0 t.body k.body body
-            told.scope ready told.told).0;
+            told.scope ready (all_told (scope_after_block tree (scope_of tree t) t.body)) told.told).0;
         small = omega (arith, short);
       }
 

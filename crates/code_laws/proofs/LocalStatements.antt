@@ -1,9 +1,8 @@
 -- Statements without blocks, of a text with marked names, of which no breach is told, are typed, and the heads of loops.
-use Rattle.std.proofs.Common.{◌≡◌, Bool, List, [], ◌∷◌, None, Option, Some, false, true, ap, sym, subst, ℕ, ◌∙◌, not, refl, ⊎_elim, ◌||◌}
+use Rattle.std.proofs.Common.{◌≡◌, Bool, List, [], ◌∷◌, None, Option, Some, false, true, ap, sym, subst, ℕ, ◌∙◌, not, refl, ◌||◌}
 use Rattle.std.specs.Prelude.{flat_map, length, map}
 use Rattle.std.specs.List.{list_all, list_any}
-use Rattle.std.proofs.Math.Bool.{or-true}
-use Rattle.std.proofs.lemmas.Bool.{and_parts, not-false, not-true, or_parts}
+use Rattle.std.proofs.lemmas.Bool.{and_parts, not-false, or_parts}
 use Rattle.plain_values.proofs.Plain.{option_or_parts}
 use Rattle.regent_tree.proofs.Members.{Has-append_left}
 use Rattle.regent_tree.specs.Accesses.{args_in, space_in}
@@ -34,9 +33,9 @@ use Rattle.check_rules.specs.types.Lookup.{names_a, region_has}
 use Rattle.check_rules.specs.types.Sorts.{is_region, may_be}
 use Rattle.check_rules.specs.types.TypedForms.{calling}
 use Rattle.code_rules.specs.Slots.{Where}
-use Rattle.local_form.specs.LocalForm.{Marked, are_local_arguments, are_local_expressions, fills_apart, gives_pointer, is_among, is_local_expression, is_local_form}
+use Rattle.local_form.specs.LocalForm.{Marked, are_local_arguments, are_local_expressions, is_local_expression, is_local_form}
 use Rattle.code_laws.specs.Handing.{forms_by}
-use Rattle.code_laws.specs.Simple.{IsInteger, IsRegion, IsSimple, IsTruth, term_in}
+use Rattle.code_laws.specs.Simple.{IsInteger, IsRegion, IsTruth, term_in}
 use Rattle.code_laws.specs.Steps.{Forms}
 use Rattle.code_laws.specs.Typed.{AreFilled, IsTyped, IsTypedForm, MayFill}
 use Rattle.expression_laws.proofs.Steps.{all_has}
@@ -46,9 +45,8 @@ use Rattle.code_laws.proofs.LocalExpressions.{local_call, local_numbers}
 use Rattle.code_laws.proofs.LocalFields.{fields_of, held_field, held_fills}
 use Rattle.code_laws.proofs.LocalNames.{IsKept, IsLocalTree, named_kept}
 use Rattle.code_laws.proofs.LocalPlaces.{field_is, region_is, spaced_name}
-use Rattle.code_laws.proofs.LocalTypes.{either}
 use Rattle.code_laws.proofs.TypedStatements.{count_types, counted, first_stands, listed_told, result_fits, told_later, told_names, told_privileges}
-use Rattle.code_laws.proofs.Typing.{no_way, AreKept}
+use Rattle.code_laws.proofs.Typing.{AreKept}
 use Rattle.scalar_form.specs.ScalarForm.{is_scalar_if_said}
 use Rattle.code_laws.proofs.LocalValues.{IsValue, value_integer, value_truth}
 use Rattle.code_laws.proofs.LocalVariables.{at, headed, stands_as}
@@ -68,11 +66,11 @@ module _ (handing keeping : Bool) (tree : Tree) (task : TaskTree) (sound : IsSou
 
   filled_with : (s : Scope) (line : ℕ) (r : Name) (from known : StaticType) → known ≡ from → is_bound s.names r ≡ true → IsSoundScope s → Ready s →
       may_be is_region (type_named s.names r) ≡ true → IsValue keeping s.names from → (fs : List Name) →
-      (list_any (is_among m.index_fields) fs ≡ true → IsSimple from) → list_any (is_unknown_region_field tree s.names r) fs ≡ false →
+      list_any (is_unknown_region_field tree s.names r) fs ≡ false →
       list_any (is_ill_typed_at_place s.known) (map (λ f. stands known (typed_spot (known_field tree (type_named s.names r) f))) fs) ≡ false →
       AreFilled keeping (here s line) r from fs
-  filled_with s line r from known same there scope names region value [] plain unknown ill = tt
-  filled_with s line r from known same there scope names region value (f ∷ fs) plain unknown ill =
+  filled_with s line r from known same there scope names region value [] unknown ill = tt
+  filled_with s line r from known same there scope names region value (f ∷ fs) unknown ill =
       let t = type_named s.names r in
       let a = or_parts (is_unknown_region_field tree s.names r f) _ unknown in
       let has = not-false (region_has tree t f) (or_parts (not (names_a is_region s.names r)) (not (region_has tree t f)) a.0).1 in
@@ -82,14 +80,13 @@ module _ (handing keeping : Bool) (tree : Tree) (task : TaskTree) (sound : IsSou
       (map (λ g. stands known (typed_spot (known_field tree t g))) fs) ill in
       let fit = subst (λ u. fits s.known u (field_type tree (space_in t) (args_in t) f) ≡ true) same
       (subst (λ u. fits s.known known u ≡ true) d.known stood.0) in (
-        held_fills keeping (fields_of m) f s.names s.known from _ (field_type tree (space_in t) (args_in t) f) value
-            (λ h. plain (ap (λ b. b || list_any (is_among m.index_fields) fs) h)) d.held fit,
+        held_fills keeping (fields_of m) f s.names s.known from _ (field_type tree (space_in t) (args_in t) f) value d.held fit,
         held_field keeping (fields_of m) (here s line) r f (field_type tree (space_in t) (args_in t) f) there d.region d.field d.held,
-        filled_with s line r from known same there scope names region value fs (λ h. plain (ap (λ b. is_among m.index_fields f || b) h ∙ or-true (is_among m.index_fields f))) a.1 stood.1,
+        filled_with s line r from known same there scope names region value fs a.1 stood.1,
       )
 
   -- each field that is filled may be written
-  may_fill : (s : Scope) (line : ℕ) (r : Name) → IsKept keeping m s.names r (bound_to s.names r).number (type_named s.names r) → IsRegion (type_named s.names r) → KnowsHead tree task s →
+  may_fill : (s : Scope) (line : ℕ) (r : Name) → IsKept keeping m s.names r (bound_to s.names r).number (type_named s.names r) → IsRegion (type_named s.names r) → KnowsHead m tree task s →
       (fs : List Name) → list_any (is_unknown_region_field tree s.names r) fs ≡ false →
       list_all (may_do (rights_declared tree task) s.known) (flat_map (wanted_of_region tree access.Write (type_named s.names r)) fs) ≡ true →
       MayFill forms (here s line) r fs
@@ -107,21 +104,12 @@ module _ (handing keeping : Bool) (tree : Tree) (task : TaskTree) (sound : IsSou
         may_fill s line r kept is head fs a.1 rest,
       )
 
-  -- what fills a field of indices is no pointer
-  no_pointer_brought : (fields : List Name) (y : Expression) → fills_apart m fields y ≡ true → list_any (is_among m.index_fields) fields ≡ true →
-      gives_pointer m y ≡ false
-  no_pointer_brought fields y e h = ⊎_elim
-      (λ q. not-true (gives_pointer m y) q)
-      (λ q. absurd (no_way (sym h ∙ not-true (list_any (is_among m.index_fields) fields) q)))
-      (either (not (gives_pointer m y)) (not (list_any (is_among m.index_fields) fields)) e)
-
   pub fill_local : (s : Scope) (line : ℕ) (r : Name) (fields : List Name) (y : Expression) → is_local_form m (fill_form r fields y) ≡ true → AreKept (parts_of_expression y) →
       IsSoundScope s → Ready s → first_of_form tree task s (fill_form r fields y) ≡ None → IsTypedForm forms (here s line) (fill_form r fields y)
   fill_local s line r fields y lo k scope names e =
-      let both = and_parts (fills_apart m fields y) (is_local_expression m y) lo in
       let parts = told_of_form tree task s sound scope (fill_form r fields y) e in
       let told = (option_or_parts (first_in_expression tree task s y) _ parts.2).0 in
-      let a = headed handing keeping tree task sound sound_task m local params result s line y both.1 k scope names told in
+      let a = headed handing keeping tree task sound sound_task m local params result s line y lo k scope names told in
       let named = or_parts (not (names_a is_region s.names r)) (list_any (is_unknown_region_field tree s.names r) fields)
       (told_names tree task s (fill_form r fields y) e).0 in
       let region = and_parts (is_bound s.names r) (may_be is_region (type_named s.names r)) (not-false (names_a is_region s.names r) named.0) in
@@ -130,7 +118,7 @@ module _ (handing keeping : Bool) (tree : Tree) (task : TaskTree) (sound : IsSou
         region.0,
         region_is handing keeping tree sound m local s.names names.names r (bound_to s.names r).number (type_named s.names r) kept region.1,
         filled_with s line r (type_of tree s y) (known_type tree s y) (head_known tree task sound s scope y told).1 region.0 scope names region.1 a.value fields
-            (λ h. a.plain (no_pointer_brought fields y both.0 h)) named.1 parts.4,
+            named.1 parts.4,
         may_fill s line r kept (region_is handing keeping tree sound m local s.names names.names r (bound_to s.names r).number (type_named s.names r) kept region.1) names.head fields named.1
             (not-false _ (told_privileges tree task s (fill_form r fields y) e).0),
       )

@@ -43,7 +43,7 @@ no_field_of_colours : (tree : Tree) (t : StaticType) (f g : Name) → IsPartitio
 no_field_of_colours tree _ f g (a_partition_type d r p) e = no_way (taking_told tree (field_of (ispace_type Int1d) g) e).1
 
 module _ (handing keeping : Bool) (task : TaskTree) (w : Where) (sound : IsSound w.tree) (sound_task : IsSoundTask w.tree task) (m : Marked)
-    (local : IsLocalTree handing keeping m w.tree) (scope : IsSoundScope w.scope) (names : AllKept keeping m w.scope.names) (head : KnowsHead w.tree task w.scope) where
+    (local : IsLocalTree handing keeping m w.tree) (scope : IsSoundScope w.scope) (names : AllKept keeping m w.scope.names) (head : KnowsHead m w.tree task w.scope) where
   abbrev forms : Forms
   forms = forms_by handing keeping w.tree task
 

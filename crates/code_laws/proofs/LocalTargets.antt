@@ -99,7 +99,7 @@ front_kept (at_step e rest) g lo k = absurd (no_way_back lo)
 
 module _ (tree : Tree) (task : TaskTree) (s : Scope) where
   -- what is told of a target is told of the access to what its last field is one of
-  front_told : (rest : Steps) (t : StaticType) (g : Name) → are_fields rest ≡ true → first_in_target_steps tree task s t (field_step g rest) ≡ None →
+  pub front_told : (rest : Steps) (t : StaticType) (g : Name) → are_fields rest ≡ true → first_in_target_steps tree task s t (field_step g rest) ≡ None →
       (first_in_steps tree task s t (before_last (field_step g rest)) ≡ None)
       × (first_of_taking tree (field_of (known_type_after_steps tree s t (before_last (field_step g rest))) (last_field (field_step g rest))) ≡ None)
   front_told no_step t g lo told = (refl, told)
@@ -118,7 +118,7 @@ module _ (tree : Tree) (task : TaskTree) (s : Scope) where
   last_known (field_step f rest) t g lo = last_known rest (known_type_after_step tree (field_of t g) (type_of_field tree t g)) f lo
   last_known (at_step e rest) t g lo = absurd (no_way_back lo)
 
-  last_wanted : (a : Access) (rest : Steps) (t : StaticType) (g : Name) → are_fields rest ≡ true → wanted_of_last tree a (takings tree s t (field_step g rest))
+  pub last_wanted : (a : Access) (rest : Steps) (t : StaticType) (g : Name) → are_fields rest ≡ true → wanted_of_last tree a (takings tree s t (field_step g rest))
       ≡ wanted_of_step tree a (field_of (known_type_after_steps tree s t (before_last (field_step g rest))) (last_field (field_step g rest)))
   last_wanted a no_step t g lo = refl
   last_wanted a (field_step f rest) t g lo = last_wanted a rest (known_type_after_step tree (field_of t g) (type_of_field tree t g)) f lo

@@ -28,13 +28,13 @@ use Rattle.check_rules.specs.first.FirstInItems.{first_declared, first_line}
 use Rattle.check_rules.specs.rules.Repeats.{Given, given_by, repeats, repeats_after, repeats_within, was_given}
 use Rattle.check_rules.specs.scopes.Sound.{StandsIn}
 use Rattle.code_rules.specs.Instructions.{tasks_of}
-use Rattle.local_form.specs.LocalForm.{Marked, all_go_back, are_local_params, are_scalar_params, is_among, is_local_param, is_local_block, is_local_item, is_local_program, is_local_task, gives_pointer, gives_scalar, is_difference, gives_points, marked_by, marked_by_arms, marked_by_else, marked_by_items, marked_by_task, marked_by_term, marked_in, marked_params, unmarked, with_either, with_partition}
+use Rattle.local_form.specs.LocalForm.{Marked, are_local_params, are_scalar_params, is_among, is_local_param, is_local_block, is_local_item, is_local_program, is_local_task, gives_pointer, gives_scalar, is_difference, gives_points, marked_by, marked_by_arms, marked_by_else, marked_by_items, marked_by_task, marked_by_term, marked_in, marked_params, takes_part, unmarked, with_either, with_part, with_partition}
 use Rattle.state_laws.proofs.Texts.{declarations_are}
 use Rattle.code_laws.proofs.LocalFields.{fields_of}
 use Rattle.code_laws.specs.Simple.{IsScalar}
 use Rattle.code_laws.proofs.LocalMarks.{HasFieldTerms, among_left, space_terms}
 use Rattle.code_laws.proofs.LocalNames.{AllKept, AreScalars, AreTakable, IsAlone, IsLocalTree}
-use Rattle.code_laws.proofs.LocalParams.{AllBehind, all_back, all_kept, behind_all, marked_region, term_takable}
+use Rattle.code_laws.proofs.LocalParams.{AreAmongParams, all_kept, marked_region, pointers_among, term_takable}
 use Rattle.code_laws.proofs.LocalTypes.{IsTakable, term_scalar}
 use Rattle.code_laws.proofs.Openings.{types_cons, types_in}
 use Rattle.code_laws.proofs.Entries.{all_of, found, kept_all, kept_item, no_clauses}
@@ -88,7 +88,6 @@ item_stands tree i h t same = Contains-from_Has (map (λ (i : ItemTree). i.form)
 
 -- the parts of a task of the form
 pub record IsOfForm (tree : Tree) (t : TaskTree) : Type 0 where
-  pub back : all_go_back unmarked t.params ≡ true
   pub params : are_local_params (marked_by_task tree t) t.params ≡ true
   pub result : is_scalar_if_said t.result ≡ true
   pub body : is_local_block (marked_by_task tree t) t.body ≡ true
@@ -101,25 +100,13 @@ pub record IsHead (keeping : Bool) (t : TaskTree) : Type 0 where
 
 task_of_form : (tree : Tree) (t : TaskTree) → is_local_task tree t ≡ true → IsOfForm tree t
 task_of_form tree t e =
-    let first = and_parts (all_go_back unmarked t.params) _ e in
-    let one = and_parts (are_local_params (marked_by_task tree t) t.params) _ first.1 in
+    let one = and_parts (are_local_params (marked_by_task tree t) t.params) _ e in
     let two = and_parts (is_scalar_if_said t.result) (is_local_block (marked_by_task tree t) t.body) one.1 in
-    record { back = first.0; params = one.0; result = two.0; body = two.1 }
+    record { params = one.0; result = two.0; body = two.1 }
 
 pub item_of_form : (tree : Tree) → is_local_program tree ≡ true → (i : ItemTree) → Has tree i → (t : TaskTree) → i.form ≡ task_item t → IsOfForm tree t
 item_of_form tree e i h t same =
     task_of_form tree t (subst (λ form. is_local_item tree form ≡ true) same (all_of (λ i. is_local_item tree i.form) tree e i h))
-
--- a variable of a written type marks no region
-term_regions : (k : Name) (t : TypeTerm) (m : Marked) → (marked_by_term k t m).regions ≡ m.regions
-term_regions k (term.Number (number.Index j)) m = refl
-term_regions k (term.Number number.Int32) m = refl
-term_regions k (term.Number number.Int64) m = refl
-term_regions k term.Truth m = refl
-term_regions k (term.Pointer p) m = refl
-term_regions k (term.Ispace j) m = refl
-term_regions k (term.Region j u) m = refl
-term_regions k (term.Partition d r c) m = refl
 
 -- what is marked as a region's name stays so
 either_regions : (b : Bool) (n : Name) (m : Marked) → (with_either b n m).regions ≡ m.regions
@@ -137,13 +124,27 @@ module _ (n : Name) where
       chosen true = h
       chosen false = subst (λ rs. is_among rs n ≡ true) (sym (either_regions (gives_pointer m e) k m)) h
 
-      apart : (b : Bool) → Region (cond b (with_partition k m) (cond (gives_scalar m e) m (with_either (gives_pointer m e) k m)))
+      parted : (b : Bool) → Region (cond b (with_part k m) (cond (gives_scalar m e) m (with_either (gives_pointer m e) k m)))
+      parted true = among_left m.regions (k ∷ []) n h
+      parted false = chosen (gives_scalar m e)
+
+      apart : (b : Bool) → Region (cond b (with_partition k m) (cond (takes_part m e) (with_part k m) (cond (gives_scalar m e) m (with_either (gives_pointer m e) k m))))
       apart true = h
-      apart false = chosen (gives_scalar m e)
+      apart false = parted (takes_part m e)
+
+  term_marks : (k : Name) (t : TypeTerm) (m : Marked) → Region m → Region (marked_by_term k t m)
+  term_marks k (term.Number (number.Index j)) m h = h
+  term_marks k (term.Number number.Int32) m h = h
+  term_marks k (term.Number number.Int64) m h = h
+  term_marks k term.Truth m h = h
+  term_marks k (term.Pointer p) m h = h
+  term_marks k (term.Ispace j) m h = h
+  term_marks k (term.Region j u) m h = among_left m.regions (k ∷ []) n h
+  term_marks k (term.Partition d r c) m h = h
 
   mutual
     marks_stay : (form : Form) (m : Marked) → Region m → Region (marked_by form m)
-    marks_stay (var_form k (Some t) i) m h = subst (λ rs. is_among rs n ≡ true) (sym (term_regions k t m)) h
+    marks_stay (var_form k (Some t) i) m h = term_marks k t m h
     marks_stay (var_form k None (Some (plain_initializer e))) m h = value_marks k e m h
     marks_stay (var_form k None (Some (region_initializer e u))) m h = among_left m.regions (k ∷ []) n h
     marks_stay (var_form k None (Some (equal_initializer r e))) m h = h
@@ -174,10 +175,10 @@ module _ (n : Name) where
 
 -- so where a task begins
 pub begins_kept : (keeping : Bool) (tree : Tree) (t : TaskTree) (m : Marked) → m.regions ≡ (marked_by_task tree t).regions → are_local_params m t.params ≡ true →
-    (m.keeps ≡ true → keeping ≡ true) → AllBehind tree t.params 0 t.params → AllKept keeping m (scope_of tree t).names
-begins_kept keeping tree t m same e keeps behind = all_kept keeping tree t.params m keeps e
+    (m.keeps ≡ true → keeping ≡ true) → AreAmongParams tree t.params 0 t.params → AllKept keeping m (scope_of tree t).names
+begins_kept keeping tree t m same e keeps among = all_kept keeping tree t.params m keeps e
     (λ p h r. subst (λ rs. is_among rs p.name ≡ true) (sym same)
-    (marks_stay_in p.name t.body (marked_params t.params (marked_by_items tree unmarked)) (marked_region t.params (marked_by_items tree unmarked) p h r))) behind
+    (marks_stay_in p.name t.body (marked_params t.params (marked_by_items tree unmarked)) (marked_region t.params (marked_by_items tree unmarked) p h r))) among
 
 module _ (keeping : Bool) where
   abbrev AllTakable : List Bound → Type 0
@@ -297,8 +298,7 @@ local_tree handing keeping tree task m fields keeps within none e alone plain he
             types_takable keeping (scope_of tree (task_named tree n)).names
             (params_takable keeping h.marks h.keeps tree (task_named tree n).params 0 (task_named tree n).params h.params);
         result = t.result;
-        back = let own = task_named tree n in
-            all_back tree own.params (behind_all tree own none within (item_stands tree f.stands.0 f.stands.1 own f.stands.2) t.back);
+        goals = let own = task_named tree n in pointers_among tree own none within (item_stands tree f.stands.0 f.stands.1 own f.stands.2);
         alone = λ q. task_alone tree (task_named tree n) (alone q f.stands.0 f.stands.1 (task_named tree n) f.stands.2);
       };
 }

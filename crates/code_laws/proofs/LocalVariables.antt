@@ -1,57 +1,52 @@
 -- Variables in a text with marked names, of which no breach is told, are typed.
-use Rattle.std.proofs.Common.{◌⊎◌, inr, ◌≡◌, Bool, [], ◌∷◌, ◌++◌, None, Option, Some, false, true, ap, sym, subst, ℕ, ◌∙◌, not, refl, ⊎_elim}
-use Rattle.std.specs.Prelude.{bytes_eq, map, ◌||◌, ◌&&◌}
-use Rattle.std.proofs.lemmas.Bool.{and_parts, not-false, or_parts}
+use Rattle.std.proofs.Common.{◌⊎◌, inl, inr, ◌≡◌, Bool, [], ◌∷◌, ◌++◌, None, Option, Some, false, true, ap, sym, subst, ℕ, ◌∙◌, not, refl, ⊎_elim}
+use Rattle.std.specs.Prelude.{◌||◌, ◌&&◌}
+use Rattle.std.proofs.lemmas.Bool.{and_parts}
 use Rattle.plain_values.proofs.Plain.{option_or_parts}
 use Rattle.regent_tree.specs.Limits.{parts_of_expression, parts_of_form, parts_of_type}
-use Rattle.regent_tree.specs.Lookup.{has_space, type_named}
-use Rattle.regent_tree.specs.Scopes.{Scope, bound_to, in_scope, known_of_type}
-use Rattle.regent_tree.specs.StaticTypes.{looked_up, place_of_space, spaces_of}
+use Rattle.regent_tree.specs.Lookup.{type_named}
+use Rattle.regent_tree.specs.Scopes.{Scope, bound_to, known_of_type}
 use Rattle.regent_tree.specs.Syntax.{Expression, Initializer, Name, TaskTree, Tree, access_expr, at_step, call_expr, cast_expr, chain_expr, convert_expr, field_step, is_null_expr, no_step, null_expr, number_expr, plain_initializer, prefix_expr, region_initializer, space_expr, truth_expr, var_form}
 use Rattle.regent_tree.specs.Accesses.{space_in}
-use Rattle.regent_tree.specs.Typing.{kind_of_ispace, known_of_child, owned, reaches_of, result_type, scope_after, type_of, var_type}
-use Rattle.regent_tree.specs.declared.facts.Term.TheVariants as place
-use Rattle.regent_tree.specs.declared.program.FieldSpace.{FieldSpace}
-use Rattle.regent_tree.specs.declared.types.Kind.TheVariants.{Int1d}
-use Rattle.regent_tree.specs.declared.types.SpaceUse.{SpaceUse}
+use Rattle.regent_tree.specs.Typing.{known_of_child, owned, reaches_of, result_type, scope_after, type_of, var_type}
 use Rattle.regent_tree.specs.declared.types.TypeTerm.{TypeTerm}
-use Rattle.regent_tree.specs.declared.types.TypeTerm.TheVariants as term
 use Rattle.regent_tree.specs.declared.typing.StaticType.{StaticType}
 use Rattle.check_laws.proofs.Blocks.{head_known}
 use Rattle.check_laws.proofs.Parts.{unless_false}
 use Rattle.check_laws.proofs.Variables.{begun_sound, parts_of_form as told_of_form}
 use Rattle.check_laws.specs.SoundScopes.{IsSoundScope, Falls}
-use Rattle.check_rules.specs.declared.rule.Rule.TheVariants as rule
-use Rattle.check_rules.proofs.Untold.{rule_none}
 use Rattle.check_rules.specs.first.FirstInExpressions.{first_in_expression, first_in_type}
-use Rattle.check_rules.specs.first.FirstInStatements.{first_of_form, first_of_initializer}
-use Rattle.check_rules.specs.first.Rules.{first_in, rule_if}
-use Rattle.check_rules.specs.rules.Names.{unbound_name_in_type}
-use Rattle.check_rules.specs.rules.Standing.{Spot, space_spot, stands, typed_spot}
+use Rattle.check_rules.specs.first.FirstInStatements.{first_of_form}
+use Rattle.check_rules.specs.rules.Standing.{Spot, stands, typed_spot}
 use Rattle.check_rules.specs.rules.Types.{may_stand}
 use Rattle.check_rules.specs.scopes.Sound.{IsSound, IsSoundTask}
 use Rattle.check_rules.specs.scopes.Variables.{declared_type, is_flawed_initializer, known_initializer}
 use Rattle.check_rules.specs.types.Fitting.{fits}
 use Rattle.check_rules.specs.types.KnownTypes.{known_type}
 use Rattle.code_rules.specs.Slots.{Where, typed}
-use Rattle.local_form.specs.LocalForm.{Marked, are_local_links, gives_scalar, is_among, is_kept_apart, is_kept_term, is_local_expression, is_local_form, gives_pointer, is_pointing, keeps_pointer, is_part}
-use Rattle.code_laws.specs.Handing.{forms_by, takes_by}
+use Rattle.local_form.specs.LocalForm.{Marked, are_local_links, gives_scalar, is_among, is_kept_apart, is_local_expression, is_local_form, gives_pointer, is_pointing, keeps_pointer, is_part, is_said_term}
+use Rattle.code_laws.specs.Handing.{forms_by, told_in}
 use Rattle.code_laws.specs.Simple.{IsSimple}
 use Rattle.code_laws.specs.Steps.{Forms}
-use Rattle.code_laws.specs.Taking.{IsFresh}
+use Rattle.code_laws.specs.Taking.{BeginsWhole}
+use Rattle.code_laws.proofs.Told.{ToldUpTo}
+use Rattle.regent_tree.proofs.Members.{Contains-from_Has, Has-append_right}
+use Rattle.regent_tree.specs.declared.facts.Known.TheVariants.{Made}
+use Rattle.std.specs.List.{Contains}
 use Rattle.code_laws.specs.Typed.{IsTyped, IsTypedForm, IsKeepable}
 use Rattle.code_laws.proofs.Wider.{begun_so}
-use Rattle.code_laws.proofs.KnownHeads.{IsReady, KnowsFacts, KnowsHead, head_made, head_named}
+use Rattle.code_laws.proofs.KnownHeads.{IsReady, KnowsFacts, made_above_none}
+use Rattle.code_laws.proofs.KnownPlaces.{head_made, head_named}
 use Rattle.code_laws.proofs.LocalPoints.{IsWell}
 use Rattle.code_laws.proofs.LocalExpressions.{local_well, local_part}
-use Rattle.code_laws.proofs.LocalNames.{IsKept, IsLocalTree, first_below, kept_region, kept_scalar, named_kept, no_kept_partition, kept_value}
+use Rattle.code_laws.proofs.LocalNames.{IsKept, IsLocalTree, kept_scalar, named_kept, no_kept_partition, kept_value}
 use Rattle.code_laws.proofs.TypedStatements.{HasNoPartition, first_stands, initial_told}
 use Rattle.code_laws.proofs.Typing.{AreKept, kept_right, no_way, no_way_back}
 use Rattle.scalar_form.specs.ScalarForm.{is_scalar_if_said}
-use Rattle.code_laws.proofs.LocalValues.{IsValue, among_there, owned_value, simple_keepable, simple_no_pointer, value_pointer, value_simple, value_space, value_tells, goals_aims, goals_among}
+use Rattle.code_laws.proofs.LocalValues.{IsValue, among_there, owned_value, simple_keepable, simple_no_pointer, value_pointer, value_simple, value_tells, goals_aims, goals_among}
 use Rattle.code_laws.specs.Pointers.{AreThere, IsPointer, a_pointer_type, AreNames}
 use Rattle.code_laws.proofs.LocalElements.{points_by_form}
-use Rattle.code_laws.proofs.LocalNulls.{type_flawless, variable_said}
+use Rattle.code_laws.proofs.LocalNulls.{kept_said, type_flawless, variable_said}
 use Rattle.code_laws.proofs.LocalArguments.{IsArgument}
 
 -- ---- a name's pointer, or an element
@@ -130,7 +125,7 @@ module _ (handing keeping : Bool) (tree : Tree) (task : TaskTree) (sound : IsSou
   -- a variable, and what its name stands for
   abbrev pub VarTyped : Scope → ℕ → Name → Option TypeTerm → Option Initializer → Type 0
   VarTyped s line n t i = IsTypedForm forms (at s line) (var_form n t i) × IsKept keeping m s.names n s.next (var_type tree s t i)
-      × KnowsFacts tree task (scope_after tree s (var_form n t i))
+      × KnowsFacts m tree task (scope_after tree s (var_form n t i))
 
   -- a variable begins with no pointer, or with a name's or an element
   begins_plainly : (s : Scope) (line : ℕ) (n : Name) (y : Expression) (points : Bool) → gives_pointer m y ≡ points → (gives_scalar m y ≡ true) ⊎ (is_among m.indices n ≡ true) →
@@ -157,9 +152,9 @@ module _ (handing keeping : Bool) (tree : Tree) (task : TaskTree) (sound : IsSou
       let from = type_of tree s y in
       let begun = begins_plainly s line n y (gives_pointer m y) refl marked own scope names a in
       let none = value_tells keeping s.names s.next from a.value in (
-        begun_so keeping (at s line) y (IsKeepable keeping (at s line) y × IsTyped forms (at s line) y) (begun.0, a.is),
+        begun_so keeping (at s line) y (IsKeepable keeping (at s line) y × IsTyped forms (at s line) y) _ (begun.0, a.is),
         subst (IsKept keeping m s.names n s.next) (sym (owned_value keeping s.names s.next from a.value)) begun.1,
-        head_named tree task s n (owned s.next from) (known_of_child s.next from ++ known_of_type (owned s.next from)) names.head.facts
+        head_named tree task s n (owned s.next from) (known_of_child s.next from ++ known_of_type (owned s.next from)) none.1 names.head.facts
             (ap (λ ks. ks ++ known_of_type (owned s.next from)) none.0 ∙ none.1),
       )
 
@@ -174,7 +169,7 @@ module _ (handing keeping : Bool) (tree : Tree) (task : TaskTree) (sound : IsSou
       AreKept (parts_of_form (var_form n (Some t) (Some (plain_initializer y)))) → IsSoundScope s → Ready s →
       first_of_form tree task s (var_form n (Some t) (Some (plain_initializer y))) ≡ None → VarTyped s line n (Some t) (Some (plain_initializer y))
   said_local s line n t y lo k scope names e =
-      let both = and_parts (is_kept_term m n t) (is_local_expression m y) lo in
+      let both = and_parts (is_said_term m n t) (is_local_expression m y) lo in
       let parts = told_of_form tree task s sound scope (var_form n (Some t) (Some (plain_initializer y))) e in
       let told = initial_told tree task s y (no_partitions s names y both.1) parts.2 in
       let a = headed s line y both.1 (kept_right (parts_of_type (Some t)) (parts_of_expression y) k) scope names told in
@@ -190,7 +185,7 @@ module _ (handing keeping : Bool) (tree : Tree) (task : TaskTree) (sound : IsSou
       (ap (λ u. fits s.known u (declared_type tree s t)) (sym begun) ∙ fit) in (
         (is.begins from a.value fits_wanted, a.is),
         is.kept,
-        head_named tree task s n wanted (known_of_child s.next from ++ known_of_type wanted) names.head.facts
+        head_named tree task s n wanted (known_of_child s.next from ++ known_of_type wanted) (value_tells keeping s.names s.next wanted is.value).2 names.head.facts
             (ap (λ ks. ks ++ known_of_type wanted) (value_tells keeping s.names s.next from a.value).0 ∙ (value_tells keeping s.names s.next wanted is.value).2),
       )
 
@@ -200,36 +195,5 @@ module _ (handing keeping : Bool) (tree : Tree) (task : TaskTree) (sound : IsSou
   unset_local s line n t lo scope names e =
       let none = (option_or_parts (first_in_type tree s.names t) _ (told_of_form tree task s sound scope (var_form n (Some t) None) e).0).0 in
       let wanted = var_type tree s (Some t) None in
-      let is = variable_said keeping m local.keeps tree s scope names.names n t lo none in
-      (is.itself, is.kept, head_named tree task s n wanted (known_of_type wanted) names.head.facts (value_tells keeping s.names s.next wanted is.value).2)
-
-  -- what is made is named behind the parameters
-  fresh : (b : Bool) (s : Scope) → KnowsHead tree task s → IsFresh (takes_by b tree task) (place.Name s.next)
-  fresh false s h = tt
-  fresh true s h = h.facts.next
-
-  pub region_local : (s : Scope) (line : ℕ) (n : Name) (y : Expression) (u : SpaceUse) → is_local_form m (var_form n None (Some (region_initializer y u))) ≡ true →
-      AreKept (parts_of_expression y) → IsSoundScope s → Ready s →
-      first_of_form tree task s (var_form n None (Some (region_initializer y u))) ≡ None → VarTyped s line n None (Some (region_initializer y u))
-  region_local s line n y u lo k scope names e =
-      let both = and_parts (is_among m.regions n) (is_local_expression m y) lo in
-      let parts = told_of_form tree task s sound scope (var_form n None (Some (region_initializer y u))) e in
-      let told = (option_or_parts (first_in_expression tree task s y) _ parts.2).0 in
-      let a = headed s line y both.1 k scope names told in
-      let space = stands_as s y space_spot scope told (first_stands s.known (stands (known_type tree s y) space_spot) [] parts.4).0 in
-      let begins = option_or_parts (first_of_initializer tree task s (region_initializer y u)) _ parts.3 in
-      let written = option_or_parts (first_in (first_in_type tree s.names) (term.Region Int1d u ∷ [])) _ begins.0 in
-      let type = option_or_parts (first_in_type tree s.names (term.Region Int1d u)) _ written.0 in
-      let bad = option_or_parts (rule_if (unbound_name_in_type tree s.names (term.Region Int1d u)) rule.Name) _ type.0 in
-      let there = not-false (has_space tree u.name)
-      (or_parts (not (has_space tree u.name)) _ (rule_none (unbound_name_in_type tree s.names (term.Region Int1d u)) rule.Name bad.0)).0 in (
-        (
-          refl,
-          value_space keeping s.names (type_of tree s y) a.value space,
-          a.is,
-          record { there = first_below (λ (f : FieldSpace). bytes_eq f.name u.name) (spaces_of tree) there; few = local.few (place_of_space tree u.name) },
-          fresh handing s names.head,
-        ),
-        kept_region (kind_of_ispace (type_of tree s y)) (place_of_space tree u.name) (map (looked_up (in_scope s)) u.args) both.0,
-        head_made tree task s n (var_type tree s None (Some (region_initializer y u))) names.head.facts,
-      )
+      let is = variable_said keeping m local.keeps tree s scope names.names n t (kept_said m n t lo) none in
+      (is.itself lo, is.kept, head_named tree task s n wanted (known_of_type wanted) (value_tells keeping s.names s.next wanted is.value).2 names.head.facts (value_tells keeping s.names s.next wanted is.value).2)

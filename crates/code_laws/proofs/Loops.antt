@@ -44,6 +44,8 @@ use Rattle.code_laws.proofs.Good.{valued, Good}
 use Rattle.code_laws.proofs.Operations.{truth_of_type}
 use Rattle.code_laws.proofs.Expressions.{value_runs}
 use Rattle.code_laws.proofs.Names.{Grown}
+use Rattle.code_laws.proofs.Pointing.{IsNoRegion}
+use Rattle.code_laws.proofs.Under.{value_under}
 use Rattle.code_laws.proofs.States.{stored, bound_more, aside_stored, enters, leaves_round}
 use Rattle.code_laws.proofs.Besides.{none_there}
 
@@ -193,7 +195,7 @@ module _ (x : Setting) (params slots : ℕ) (fit : SlotsFit x slots) (counts : C
   -- one round, and what comes after it
   pub one_round : (m : ℕ) (aside : Aside) (h h2 : Here) (n : Name) (t : StaticType) (item : Value)
       (body : Run Going) (code : Piece) (z : ℤ) (keeps : MachineValue) (head : ℕ → Instr) (s : State) (pc : ℕ) (i : Instance) →
-      IsOf t item → IsInside x s.store t item → IsPointed h.scope.names s.names t item →
+      IsOf t item → IsInside x s.store t item → IsPointed h.scope.names s.names t item → IsNoRegion item →
       ((q : Region) → GoesToPart t item q → (keeps ≡ machine_value i.contents (a_region q)) × (q.root < length s.store)) → params ≤ length h.scope.names →
       IsHead h (head (suc (past code (suc pc)))) (past code (suc pc)) pc (machine_value i.contents item) z i →
       Agrees x params slots aside h s i →
@@ -212,10 +214,10 @@ module _ (x : Setting) (params slots : ℕ) (fit : SlotsFit x slots) (counts : C
       Does x params slots aside (placed pc [] i) (suc (past code (suc pc))) h
       (and_then (and_then (pay_from m h s) (λ _. scoped (bind item >>= λ _. body)))
       (λ g. going_on rest g))
-  one_round zero aside h h2 n t item body code z keeps head s pc i ty inside pointed part low is g el f grown tree more rest q again =
+  one_round zero aside h h2 n t item body code z keeps head s pc i ty inside pointed none part low is g el f grown tree more rest q again =
       subst (λ u. Ends x (placed pc [] i) (Broke (Some (record { kind = Turns; line = h.line })) u)) g.text
       (is.faults (g.turns ∙ q))
-  one_round (suc m) aside h h2 n t item body code z keeps head s pc i ty inside pointed part low is g el f grown tree more rest q again =
+  one_round (suc m) aside h h2 n t item body code z keeps head s pc i ty inside pointed none part low is g el f grown tree more rest q again =
       let w = where_of params h in
       let k = length h.scope.names in
       let c = counter w k in
@@ -229,7 +231,7 @@ module _ (x : Setting) (params slots : ℕ) (fit : SlotsFit x slots) (counts : C
       let i2 = stored v put i1 in
       let j = headed c v put z m i in
       let g2 = bound_more x params slots fit aside h s1 i1 n t true item low
-      (omega (arith, is.puts_in)) ty inside pointed (λ q goes. (get_or_from_slice_get i.frame.slots l keeps blank el ∙ (part q goes).0, (part q goes).1)) g1 in
+      (omega (arith, is.puts_in)) ty inside pointed (value_under x.forms.takes h.scope.names s.names t item none) (λ q goes. (get_or_from_slice_get i.frame.slots l keeps blank el ∙ (part q goes).0, (part q goes).1)) g1 in
       let up : aside.upto ≤ k = omega (arith, g.inside, g.count) in
       let g3 = aside_stored x params slots fit aside (looping h n t) s2 i2 k 1 (machine.Number (z +ℤ pos 1))
       low up (omega arith) (omega arith) (omega arith) refl g2 in
@@ -252,7 +254,7 @@ module _ (x : Setting) (params slots : ℕ) (fit : SlotsFit x slots) (counts : C
       ∙ get_or_from_slice_get i.frame.slots l keeps blank el) in
       does_before x params slots fit counts aside (suc e) h _ _ _ (jumps_to_head e pc h.line h.line (head (suc e)) j3 is.back f.0 f.2)
       (again (record s3 { names = take (length s.names) s3.names }) j3
-      (leaves_round x params slots fit aside aside2 h h2 (length s.names) s2 s3 j j3 refl (omega (arith, up))
+      (leaves_round x params slots fit aside aside2 h h2 (length s.names) s2 s3 j j3 low refl (omega (arith, up))
       (omega (arith, g.bound, q)) grown tree g.count (omega (arith, up, g.count)) g3.hidden g3.steady g5) cs ls
       (λ p q l d. get_or-take (length s.names) s3.names p nothing (omega (arith, l, g.count))
       ∙ g5.steady p q (omega (arith, l)) (get_or-append s.names (item ∷ []) nothing p (omega (arith, l, g.count)) ∙ d)) more_own)))
@@ -281,7 +283,7 @@ module _ (x : Setting) (params slots : ℕ) (fit : SlotsFit x slots) (counts : C
       let to = suc (past code (suc pc)) in
       let used = three_least (counter w m) (beside w m) (slot w m) slots (fit pc _ f.0) in
       one_round s.turns aside h h2 n t (a_number wd z) body code z (machine.Number b)
-      (instr.NextNumber (counter w m) (beside w m) (slot w m)) s pc i (ty z fz) (number_inside x s.store t wd z (ty z fz)) tt (λ q goes. absurd (none_there q goes.regions)) low
+      (instr.NextNumber (counter w m) (beside w m) (slot w m)) s pc i (ty z fz) (number_inside x s.store t wd z (ty z fz)) tt (λ q e. absurd cc) (λ q goes. absurd (none_there q goes.regions)) low
       (record {
         back = lt-ltb (past code (suc pc)) to (omega arith);
         counts_in = used.0;

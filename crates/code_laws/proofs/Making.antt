@@ -167,6 +167,7 @@ module _ (x : Setting) (params slots : ℕ) (aside : Aside) where
         inside_store = all_more x s.store image h.scope.names s.names g.typed g.inside_store;
         pointed = g.pointed;
         steady = g.steady;
+        under = g.under;
         besides = beside_roots (λ p. get_or i.frame.slots (beside (where_of params h) p) blank) i.contents j.contents params (length s.store)
             (length (s.store ++ image ∷ [])) h.scope.names s.names g.typed
             (λ q low. (

@@ -1,44 +1,48 @@
 -- Pointers that go into variables: each position becomes that of its region in the other list.
-use Rattle.std.proofs.Common.{◌≡◌, ℕ, zero, suc, ◌+◌, ◌<◌, ◌≤◌, List, [], ◌∷◌, Bool, true, false, Some, None, refl, sym, ap, ◌∙◌, subst, arith}
-use Rattle.std.specs.Prelude.{cond, get_or, length}
+use Rattle.std.proofs.Common.{◌≡◌, ◌⊎◌, inl, inr, ℕ, zero, suc, ◌+◌, ◌<◌, ◌≤◌, List, [], ◌∷◌, Bool, true, false, Some, None, refl, sym, ap, ◌∙◌, subst, arith}
+use Rattle.std.specs.Prelude.{cond, get_or, length, pos}
 use Rattle.std.proofs.lemmas.List.{length-map}
 use Rattle.std.proofs.lemmas.Option.{slice_get-get_or}
 use Rattle.regent_tree.specs.Accesses.{converted}
 use Rattle.regent_tree.specs.Execution.{write_name}
 use Rattle.regent_tree.specs.Facts.{is_subregion}
 use Rattle.regent_tree.specs.Lookup.{is_bound}
-use Rattle.regent_tree.specs.Running.{Here, State, gives}
+use Rattle.regent_tree.specs.Running.{Here, State, fails, gives}
 use Rattle.regent_tree.specs.Scopes.{bound_to}
 use Rattle.regent_tree.specs.StaticTypes.{Reach}
 use Rattle.regent_tree.specs.Syntax.{Name}
 use Rattle.regent_tree.specs.Typing.{has_wild, least_above, position_of, positions}
-use Rattle.regent_tree.specs.Values.{Region, Target, Value, a_pointer, kept_target, moved, null_target, point_target, regions_of}
+use Rattle.regent_tree.specs.Values.{Region, Target, Value, a_pointer, an_index, kept_target, moved, null_target, point_target, regions_of}
 use Rattle.regent_tree.specs.declared.facts.Known.{Known}
 use Rattle.regent_tree.specs.declared.facts.Term.{Term}
+use Rattle.regent_tree.specs.declared.outcome.Fault.{Fault}
+use Rattle.regent_tree.specs.declared.outcome.FaultKind.TheVariants.{NullPointer}
 use Rattle.regent_tree.specs.declared.statement.How.TheVariants as how
 use Rattle.regent_tree.specs.declared.types.Kind.{Kind}
 use Rattle.regent_tree.specs.declared.typing.StaticType.{StaticType}
-use Rattle.regent_tree.specs.declared.typing.StaticType.TheVariants.{Pointer as pointer_type}
+use Rattle.regent_tree.specs.declared.typing.StaticType.TheVariants.{Index as index_type, Pointer as pointer_type}
 use Rattle.task_code.specs.declared.instr.Instr.TheVariants as instr
+use Rattle.machine_terms.specs.declared.order.Ended.TheVariants.{Broke}
 use Rattle.machine_terms.specs.declared.order.Instance.{Instance}
+use Rattle.machine_terms.specs.declared.order.Resumed.TheVariants.{IsOver}
 use Rattle.machine_terms.specs.declared.value.Value.{Value as MachineValue}
 use Rattle.machine_terms.specs.declared.value.Value.TheVariants as machine
-use Rattle.machine_terms.specs.Pointers.{move, moved_to}
+use Rattle.machine_terms.specs.Pointers.{move, moved_to, point}
 use Rattle.code_rules.specs.Instructions.{converted_code}
 use Rattle.code_rules.specs.Pieces.{op, past}
 use Rattle.code_rules.specs.Slots.{slot_named}
 use Rattle.value_laws.specs.Shapes.{IsPosition}
-use Rattle.code_laws.specs.Pointers.{Assigned, Filled, IsPointer, a_pointer_type, assigned_plain, assigned_pointer, filled_plain, filled_pointer}
-use Rattle.code_laws.specs.Standing.{Agrees, Aside, Comes, Does, IsInside, IsOf, SlotsFit, Stands, nothing, of_pointer, where_of}
-use Rattle.code_laws.specs.Steps.{Leads, Setting, machine_of, on_step, placed}
+use Rattle.code_laws.specs.Pointers.{Assigned, Filled, IsPointer, a_pointer_type, assigned_plain, assigned_pointer, filled_index, filled_plain, filled_pointer}
+use Rattle.code_laws.specs.Standing.{Agrees, Aside, Comes, Does, IsInside, IsOf, SlotsFit, Stands, nothing, of_index, of_pointer, where_of}
+use Rattle.code_laws.specs.Steps.{Ends, Leads, Setting, machine_of, on_step, placed}
 use Rattle.code_laws.specs.Typed.{CountsDown}
 use Rattle.code_laws.proofs.Accesses.{kept_round}
-use Rattle.code_laws.proofs.Counting.{into_runs}
+use Rattle.code_laws.proofs.Counting.{into_runs, point_fits}
 use Rattle.code_laws.proofs.Good.{Gives, Good, valued}
 use Rattle.code_laws.proofs.Pointing.{GoAlike, IsNoRegion}
 use Rattle.code_laws.proofs.Rows.{writes_name}
 use Rattle.code_laws.proofs.States.{changed, stored, stores}
-use Rattle.code_laws.proofs.Runs.{leads_by}
+use Rattle.code_laws.proofs.Runs.{ends_by, leads_by}
 use Rattle.code_laws.proofs.Values.{named}
 use Rattle.code_laws.proofs.Wider.{into_simple}
 use Rattle.code_laws.proofs.Writes.{ConvertedAt, converted_at}
@@ -111,18 +115,43 @@ module _ (x : Setting) (params slots : ℕ) (fit : SlotsFit x slots) (aside : As
       move_runs h (positions h.scope.known rs qs) (length rs) k2 sp2 args2 qs tg regions s pc st i (positions_many h.scope.known rs qs)
       (positions_small h.scope.known rs qs) o g f
 
-  -- with what a field is filled
-  pub filled_at : (h : Here) (from t : StaticType) (v : Value) (s : State) (pc : ℕ) (st : List MachineValue) (i : Instance) →
+  -- a conversion that is a fault
+  pub record BreaksAt (h : Here) (from t : StaticType) (v : Value) (s : State) (pc : ℕ) (st : List MachineValue) (i : Instance) : Type 0 where
+    pub fault : Fault
+    pub breaks_it : converted h from t [] v s ≡ fails fault s
+    pub ends : Ends x (valued pc st v i) (Broke (Some fault) s.text)
+
+  -- a pointer's point
+  point_at : (h : Here) (j k : Kind) (sp : ℕ) (args rs : List Reach) (tg : Target) (us : List Region) (s : State) (pc : ℕ) (st : List MachineValue)
+      (i : Instance) → i.text ≡ s.text → IsPosition (length rs) tg → Stands x.body pc (op instr.Point h.line) →
+      ConvertedAt x params slots fit aside h (pointer_type k sp args rs) (index_type j) (a_pointer tg us) s pc st i
+      ⊎ BreaksAt h (pointer_type k sp args rs) (index_type j) (a_pointer tg us) s pc st i
+  point_at h j k sp args rs null_target us s pc st i text o f = inr (record {
+    fault = record { kind = NullPointer; line = h.line };
+    breaks_it = refl;
+    ends = ends_by x _ _ instr.Point h.line f (ap (λ t. IsOver (Broke (Some (record { kind = NullPointer; line = h.line })) t)) text);
+  })
+  point_at h j k sp args rs (point_target n c) us s pc st i text o f =
+      let z = placed pc (machine.Number (kept_target (point_target n c)) ∷ st) i in inl (record {
+        value = an_index (pos n);
+        gives_it = refl;
+        leads = leads_by x _ _ instr.Point h.line f (ap (λ t. on_step x z (point t h.line st (machine_of z))) (kept_round n c o.0));
+        typed = of_index j (pos n) (point_fits n o.0);
+      })
+
+  -- with what a field is filled, or the fault where it is with null and holds an index
+  pub filled_at : (h : Here) (from t : StaticType) (v : Value) (s : State) (pc : ℕ) (st : List MachineValue) (i : Instance) → i.text ≡ s.text →
       Filled from t → IsOf from v → Stands x.body pc (converted_code (where_of params h) from t) →
-      ConvertedAt x params slots fit aside h from t v s pc st i
-  filled_at h from t v s pc st i (filled_plain _ _ p) o f = converted_at x params slots fit aside h from t v s pc st i p o f
-  filled_at h _ _ _ s pc st i (filled_pointer _ _ (a_pointer_type k sp args rs ns) (a_pointer_type k2 sp2 args2 qs ms)) (of_pointer _ _ _ _ tg us o) f =
-      let js = positions h.scope.known rs qs in record {
+      ConvertedAt x params slots fit aside h from t v s pc st i ⊎ BreaksAt h from t v s pc st i
+  filled_at h from t v s pc st i text (filled_plain _ _ p) o f = inl (converted_at x params slots fit aside h from t v s pc st i p o f)
+  filled_at h _ _ _ s pc st i text (filled_index k sp args rs j) (of_pointer _ _ _ _ tg us o) f = point_at h j k sp args rs tg us s pc st i text o f
+  filled_at h _ _ _ s pc st i text (filled_pointer _ _ (a_pointer_type k sp args rs ns) (a_pointer_type k2 sp2 args2 qs ms)) (of_pointer _ _ _ _ tg us o) f =
+      let js = positions h.scope.known rs qs in inl (record {
         value = a_pointer (moved js tg) [];
         gives_it = refl;
         leads = moves js (length rs) h.line tg pc st i (positions_many h.scope.known rs qs) o f;
         typed = of_pointer k2 sp2 args2 qs (moved js tg) [] (moved_small js (length rs) (length qs) tg (positions_small h.scope.known rs qs) o);
-      }
+      })
 
   -- what is assigned
   pub assigned_runs : (h : Here) (t u : StaticType) (regions : List Region) (v : Value) (s : State) (pc : ℕ) (st : List MachineValue)

@@ -37,7 +37,7 @@ use Rattle.memory_laws.specs.Memory.{Holds, memory_of}
 use Rattle.memory_laws.specs.Places.{numbers}
 use Rattle.machine_terms.specs.declared.order.Root.{Root}
 use Rattle.machine_terms.specs.declared.value.Value.{Value as MachineValue}
-use Rattle.code_laws.specs.Standing.{Answering, AreTaken, Agrees, AreOf, AreReady, Aside, IsInside, IsOf, SlotsFit, blank, machine_value, nothing, of_index, of_integer, of_partition, of_pointer, of_region, of_space, of_truth, where_of, AreBeside}
+use Rattle.code_laws.specs.Standing.{AreUnder, Answering, AreTaken, Agrees, AreOf, AreReady, Aside, IsInside, IsOf, SlotsFit, blank, machine_value, nothing, of_index, of_integer, of_partition, of_pointer, of_region, of_space, of_truth, where_of, AreBeside}
 use Rattle.code_laws.specs.Steps.{Forms, Setting}
 use Rattle.code_laws.proofs.States.{ready_value}
 use Rattle.code_laws.proofs.Names.{typed_more}
@@ -220,13 +220,14 @@ module _ (tree : Tree) (turns more depth : ℕ) (t : TaskTree) (place : ℕ) (vs
   pub opens : (forms : Forms) (calls : Calls) →
       (forms.calls ≡ true → Answering (called_setting forms tree turns more depth (numbers c) args t) tree calls) → AreTaken IsOf (param_types tree t) vs →
       AreTaken (IsInside (called_setting forms tree turns more depth (numbers c) args t) store) (param_types tree t) vs →
-      ArePointed (scope_of tree t).names (entered (scope_of tree t) vs (param_types tree t) vs) →
+      ArePointed (length t.params) (entered (scope_of tree t) vs (param_types tree t) vs) (scope_of tree t).names →
+      AreUnder forms.takes (scope_of tree t).names (entered (scope_of tree t) vs (param_types tree t) vs) →
       ((at : ℕ → MachineValue) → AreBeside at c (length t.params) (length store) (scope_of tree t).names (entered (scope_of tree t) vs (param_types tree t) vs)) → length vs ≤ (task_code tree t).slots → Holds (code_of tree) store (memory_of begins) →
       ((n : NeedCode) → Contains (needs_taken forms.takes) n → AreCovered (is_asked args n) store (memory_of begins)) →
       AreParts args (pairs_taken forms.takes) → KeepsNumbers tree store →
       Agrees (called_setting forms tree turns more depth (numbers c) args t) (length t.params) (task_code tree t).slots
       (before_all turns) (body_of tree calls t) (opening tree turns t vs store) begins
-  opens forms calls answers takes inside pointed besides room holds given parts kept =
+  opens forms calls answers takes inside pointed under besides room holds given parts kept =
       let x = called_setting forms tree turns more depth (numbers c) args t in
       let code = task_code tree t in
       let sc = scope_of tree t in
@@ -252,6 +253,7 @@ module _ (tree : Tree) (turns more depth : ℕ) (t : TaskTree) (place : ℕ) (vs
         steady = λ k q l e. absurd (omega (arith, l));
         besides = besides (λ p. get_or (ms ++ blanks) (beside w p) blank);
         pointed = pointed;
+        under = under;
         count = taken_length IsOf (param_types tree t) us e.0 ∙ types_length sc.names;
         inside = omega arith;
         slots_are = length-append ms blanks

@@ -37,6 +37,7 @@ use Rattle.code_laws.proofs.Knowing.{declared_pointed, pointing, then_known}
 use Rattle.code_laws.proofs.Moving.{pointer_into}
 use Rattle.code_laws.proofs.PointerValues.{there_reached}
 use Rattle.code_laws.proofs.Pointing.{simple_pointed, named_pointed}
+use Rattle.code_laws.proofs.Under.{pointer_not_region, simple_not_region, type_under}
 use Rattle.code_laws.proofs.Wider.{into_simple, zero_simple}
 use Rattle.code_laws.proofs.RegionLoops.{only_one}
 use Rattle.code_laws.proofs.Rows.{does_before, does_said, owned_plain, plain_past, plain_stands}
@@ -153,6 +154,7 @@ module _ (x : Setting) (params slots : ℕ) (fit : SlotsFit x slots) (counts : C
       (λ v s1 j pt k1. binds x params slots fit counts aside h n None (Some (plain_initializer e)) v s1 a j low
       (subst (λ u. IsOf u v) own k1.0) (subst (λ u. IsInside x s1.store u v) own (pointer_inside x s1.store t v p))
       (subst (λ u. IsPointed h.scope.names s1.names u v) own pt)
+      (type_under x.forms.takes h.scope.names s1.names (owned h.scope.next t) v (subst (λ u. IsRegion u → ⊥) own (pointer_not_region t p)))
       (no_part_goes _ j.contents (length s1.store) (owned h.scope.next t) v (subst HasNoPart own none)) k1.1 f2))
 
   -- `var n = m`, of a pointer that goes into no part
@@ -211,6 +213,7 @@ module _ (x : Setting) (params slots : ℕ) (fit : SlotsFit x slots) (counts : C
       (does_before x params slots fit counts aside (suc (suc (suc (suc pc)))) (after_statement h form) _ _ (bind v s) (leads_twice x one (leads_twice x two three))
       (binds x params slots fit counts aside h n None start v s (suc (suc (suc pc))) (stored l rv i) low (subst (λ u. IsOf u v) (sym is_var) ty)
       (subst (λ u. IsInside x s.store u v) (sym is_var) tt) (subst (λ u. IsPointed h.scope.names s.names u v) (sym is_var) pointed)
+      (type_under x.forms.takes h.scope.names s.names (var_type h.tree h.scope None start) v (subst (λ u. IsRegion u → ⊥) (sym is_var) (λ r. elim r [ ])))
       (λ d to. subst (λ (e : Region). (get_or (slice_set i.frame.slots l rv) l blank ≡ machine_value i.contents (a_region e)) × (e.root < length s.store))
       (only_one q d (sym near.1 ∙ to.regions)) (get_or-set_same i.frame.slots l rv blank room, was.2)) g2 f2))
 
@@ -254,6 +257,7 @@ module _ (x : Setting) (params slots : ℕ) (fit : SlotsFit x slots) (counts : C
       (λ v s1 j k1. binds x params slots fit counts aside h n None (Some (plain_initializer e)) v s1 (past code pc) j low
       (subst (λ u. IsOf u v) own k1.0) (subst (λ u. IsInside x s1.store u v) own (simple_inside x s1.store t v simple))
       (subst (λ u. IsPointed h.scope.names s1.names u v) own (simple_pointed h.scope.names s1.names t v simple k1.0))
+      (type_under x.forms.takes h.scope.names s1.names (owned h.scope.next t) v (subst (λ u. IsRegion u → ⊥) own (simple_not_region t simple)))
       (no_part_goes _ j.contents (length s1.store) (owned h.scope.next t) v (subst HasNoPart own (simple_no_part t simple))) k1.1 f2))
   begins_run aside h n e s pc i low (inr p) fine g f = ⊎_elim
       (λ none. pointer_begins aside h n e s pc i low p.0 none p.1 fine g f)
@@ -285,6 +289,7 @@ module _ (x : Setting) (params slots : ℕ) (fit : SlotsFit x slots) (counts : C
       (λ v s1 j k. into_runs x params slots fit aside h from u (regions_reached h.scope s1.names (reaches_of u)) v s1 a [] j into k.0 k.1 f.0.1))
       (λ v s1 j k. binds x params slots fit counts aside h n (Some t) (Some (plain_initializer e)) v s1 b j low k.0
       (simple_inside x s1.store u v simple) (simple_pointed h.scope.names s1.names u v simple k.0)
+      (type_under x.forms.takes h.scope.names s1.names u v (simple_not_region u simple))
       (no_part_goes _ j.contents (length s1.store) u v (simple_no_part u simple)) k.1 f.1)
   declares_run aside h n t e s pc i low (begins_pointer _ _ p wr) fine g f =
       let w = where_of params h in
@@ -300,7 +305,9 @@ module _ (x : Setting) (params slots : ℕ) (fit : SlotsFit x slots) (counts : C
       (then x (comes_said x _ _) _ _ _ (value h e s) _ (value_runs x params slots fit aside h 0 low e s pc [] i fine g f.0.0)
       (λ v s1 j k. pointer_into x params slots fit aside h from u (regions_reached h.scope s1.names (reaches_of u)) v s1 a [] j p wr.0 k.0 k.1 f.0.1))
       (λ v s1 j pt k. binds x params slots fit counts aside h n (Some t) (Some (plain_initializer e)) v s1 b j low k.0
-      (pointer_inside x s1.store u v wr.0) pt (no_part_goes _ j.contents (length s1.store) u v (written_no_part h.scope.names u wr)) k.1 f.1)
+      (pointer_inside x s1.store u v wr.0) pt
+      (type_under x.forms.takes h.scope.names s1.names u v (pointer_not_region u wr.0))
+      (no_part_goes _ j.contents (length s1.store) u v (written_no_part h.scope.names u wr)) k.1 f.1)
 
   -- null
   null_value : (aside : Aside) (h : Here) (t : StaticType) (s : State) (pc : ℕ) (i : Instance) → IsPointer t →
@@ -331,6 +338,7 @@ module _ (x : Setting) (params slots : ℕ) (fit : SlotsFit x slots) (counts : C
       (zero_runs x params slots fit counts aside h u s pc i zero g f.0)
       (λ v s1 j k. binds x params slots fit counts aside h n (Some t) None v s1 (suc pc) j low k.0
       (simple_inside x s1.store u v (zero_simple u zero)) (simple_pointed h.scope.names s1.names u v (zero_simple u zero) k.0)
+      (type_under x.forms.takes h.scope.names s1.names u v (simple_not_region u (zero_simple u zero)))
       (no_part_goes _ j.contents (length s1.store) u v (simple_no_part u (zero_simple u zero))) k.1 f.1)
   itself_run aside h n t s pc i low (itself_null _ wr) g f =
       let form = var_form n (Some t) None in
@@ -340,4 +348,5 @@ module _ (x : Setting) (params slots : ℕ) (fit : SlotsFit x slots) (counts : C
       does_before x params slots fit counts aside (suc (suc pc)) (after_statement h form) _ _ (exec h form s) r.1
       (binds x params slots fit counts aside h n (Some t) None v s (suc pc) r.0 low r.2.0 (pointer_inside x s.store u v wr.0)
       (null_pointed h u s wr g.typed g.count)
+      (type_under x.forms.takes h.scope.names s.names u v (pointer_not_region u wr.0))
       (no_part_goes _ r.0.contents (length s.store) u v (written_no_part h.scope.names u wr)) r.2.1 f.1)

@@ -2,7 +2,7 @@
 use Rattle.std.proofs.Common.{◌≡◌, ℕ, ◌<◌, ◌≤◌, List, [], ◌∷◌, ◌++◌, Bool, true, false, Some, None, refl, sym, ap, ◌∙◌, subst, arith}
 use Rattle.std.specs.Prelude.{bytes_eq, cond, get_or, length, slice_set, take, ◌==◌, ◌||◌}
 use Rattle.std.proofs.lemmas.Bool.{eqb-false, eqb-true, ne_eqb}
-use Rattle.std.proofs.lemmas.List.{get_or-set_other, get_or-set_same, get_or-take}
+use Rattle.std.proofs.lemmas.List.{get_or-set_other, get_or-set_same, get_or-take, length-append}
 use Rattle.std.proofs.Math.ListN.{get_or-append}
 use Rattle.std.proofs.Math.Seq.{get_or-append_seam}
 use Rattle.check_laws.specs.SoundScopes.{Falls}
@@ -17,7 +17,7 @@ use Rattle.regent_tree.specs.declared.facts.Term.TheVariants as term
 use Rattle.regent_tree.specs.declared.typing.Bound.{Bound}
 use Rattle.regent_tree.specs.declared.typing.StaticType.{StaticType}
 use Rattle.regent_tree.specs.declared.typing.StaticType.TheVariants.{Unknown as unknown_type}
-use Rattle.code_laws.specs.Pointers.{ArePointed, AreReached, IsCut, IsCutAs, IsOfName, IsOfPart, IsPointed}
+use Rattle.code_laws.specs.Pointers.{ArePointed, ArePointedIn, AreReached, IsCut, IsCutAs, IsOfName, IsOfPart, IsPointed, given_pointed, more_pointed}
 use Rattle.code_laws.specs.Simple.{IsPartition, IsRegion, IsSimple, a_region_type, simple_index, simple_integer, simple_space, simple_truth}
 use Rattle.code_laws.specs.Standing.{AreOf, IsOf, RegionsStay, nothing, of_index, of_integer, of_region, of_space, of_truth}
 use Rattle.code_laws.specs.Typed.{IsOwnRegion}
@@ -56,9 +56,9 @@ simple_pointed bs names t v s o = plain_pointed bs names t v (simple_plain t v s
 pub region_pointed : (bs : List Bound) (names : List Value) (t : StaticType) (v : Value) → IsRegion t → IsOf t v → IsPointed bs names t v
 region_pointed bs names _ _ (a_region_type k sp args r) (of_region _ _ _ _ q) = tt
 
-pub all_plain : (bs : List Bound) (names : List Value) → AreOf (λ t v. IsPlain v) bs names → ArePointed bs names
-all_plain [] names a = tt
-all_plain (b ∷ bs) names a = (plain_pointed bs names b.static_type (get_or names b.place nothing) a.1, all_plain bs names a.2)
+pub all_plain : (all bs : List Bound) (names : List Value) → AreOf (λ t v. IsPlain v) bs names → ArePointedIn all bs names
+all_plain all [] names a = tt
+all_plain all (b ∷ bs) names a = (plain_pointed all names b.static_type (get_or names b.place nothing) a.1, all_plain all bs names a.2)
 
 -- ---- other values
 
@@ -124,36 +124,55 @@ pointed_stays bs names after t (a_region q) stay a = tt
 pointed_stays bs names after t (a_partition q) stay a = cut_stays bs names after (parent_of t) q stay a
 
 -- where the values below a place are the same
-pointed_same : (bs : List Bound) (names after : List Value) (n : ℕ) → length bs ≤ n →
-    ((p : ℕ) → p < n → get_or after p nothing ≡ get_or names p nothing) → AreOf IsOf bs names → ArePointed bs names → ArePointed bs after
-pointed_same [] names after n l same o a = tt
-pointed_same (b ∷ bs) names after n l same o a = (
-  subst (IsPointed bs after b.static_type) (sym (same b.place (omega (arith, o.0, l))))
-      (pointed_stays bs names after b.static_type (get_or names b.place nothing)
-      (λ p q low e. same p (omega (arith, low, l)) ∙ e) a.0),
-  pointed_same bs names after n (omega (arith, l)) same o.2 a.1,
+below_same : (all : List Bound) (names after : List Value) (n p : ℕ) (t : StaticType) → length all ≤ n → p < n →
+    ((p : ℕ) → p < n → get_or after p nothing ≡ get_or names p nothing) → IsPointed all names t (get_or names p nothing) →
+    IsPointed all after t (get_or after p nothing)
+below_same all names after n p t l low same a =
+    subst (IsPointed all after t) (sym (same p low))
+    (pointed_stays all names after t (get_or names p nothing) (λ k q less e. same k (omega (arith, less, l)) ∙ e) a)
+
+same_in : (all bs : List Bound) (names after : List Value) (n : ℕ) → length all ≤ n → length bs ≤ n →
+    ((p : ℕ) → p < n → get_or after p nothing ≡ get_or names p nothing) → AreOf IsOf bs names → ArePointedIn all bs names → ArePointedIn all bs after
+same_in all [] names after n l k same o a = tt
+same_in all (b ∷ bs) names after n l k same o a = (
+  below_same all names after n b.place b.static_type l (omega (arith, o.0, k)) same a.0,
+  same_in all bs names after n l (omega (arith, k)) same o.2 a.1,
 )
 
+pointed_same : {params : ℕ} (bs : List Bound) (names after : List Value) (n : ℕ) → length bs ≤ n →
+    ((p : ℕ) → p < n → get_or after p nothing ≡ get_or names p nothing) → AreOf IsOf bs names → ArePointed params names bs →
+    ArePointed params after bs
+pointed_same _ names after n l same o (given_pointed bs e a) = given_pointed bs e (same_in bs bs names after n l l same o a)
+pointed_same _ names after n l same o (more_pointed b bs p a) = more_pointed b bs
+    (below_same bs names after n b.place b.static_type (omega (arith, l)) (omega (arith, o.0, l)) same p)
+    (pointed_same bs names after n (omega (arith, l)) same o.2 a)
+
 -- one more name
-pub pointed_more : (b : Bound) (bs : List Bound) (names : List Value) (v : Value) → length names ≡ length bs → b.place ≡ length bs →
-    AreOf IsOf bs names → IsPointed bs names b.static_type v → ArePointed bs names → ArePointed (b ∷ bs) (names ++ v ∷ [])
+pub pointed_more : {params : ℕ} (b : Bound) (bs : List Bound) (names : List Value) (v : Value) → length names ≡ length bs → b.place ≡ length bs →
+    AreOf IsOf bs names → IsPointed bs names b.static_type v → ArePointed params names bs → ArePointed params (names ++ v ∷ []) (b ∷ bs)
 pointed_more b bs names v long place o p a =
     let last : get_or (names ++ v ∷ []) b.place nothing ≡ v =
-    ap (λ k. get_or (names ++ v ∷ []) k nothing) (place ∙ sym long) ∙ get_or-append_seam names v [] nothing in (
-      subst (IsPointed bs (names ++ v ∷ []) b.static_type) (sym last)
-          (pointed_stays bs names (names ++ v ∷ []) b.static_type v
-          (λ k q low e. get_or-append names (v ∷ []) nothing k (omega (arith, low, long)) ∙ e) p),
-      pointed_same bs names (names ++ v ∷ []) (length names) (omega (arith, long))
-          (λ k low. get_or-append names (v ∷ []) nothing k low) o a,
-    )
+    ap (λ k. get_or (names ++ v ∷ []) k nothing) (place ∙ sym long) ∙ get_or-append_seam names v [] nothing in
+    more_pointed b bs
+    (subst (IsPointed bs (names ++ v ∷ []) b.static_type) (sym last)
+    (pointed_stays bs names (names ++ v ∷ []) b.static_type v
+    (λ k q low e. get_or-append names (v ∷ []) nothing k (omega (arith, low, long)) ∙ e) p))
+    (pointed_same bs names (names ++ v ∷ []) (length names) (omega (arith, long))
+    (λ k low. get_or-append names (v ∷ []) nothing k low) o a)
 
--- fewer names
-pub pointed_fewer : (more bs : List Bound) (names : List Value) → ArePointed (more ++ bs) names → ArePointed bs names
-pointed_fewer [] bs names a = a
-pointed_fewer (b ∷ more) bs names a = pointed_fewer more bs names a.1
+-- fewer names, with all parameters among them
+one_fewer : {params : ℕ} (b : Bound) (bs : List Bound) (names : List Value) → params ≤ length bs → ArePointed params names (b ∷ bs) → ArePointed params names bs
+one_fewer b bs names low (given_pointed _ e a) = absurd (omega (arith, low, e))
+one_fewer b bs names low (more_pointed _ _ p a) = a
 
-pub pointed_cut : (bs : List Bound) (names : List Value) (n : ℕ) → length bs ≤ n → AreOf IsOf bs names → ArePointed bs names →
-    ArePointed bs (take n names)
+pub pointed_fewer : {params : ℕ} (more bs : List Bound) (names : List Value) → params ≤ length bs → ArePointed params names (more ++ bs) →
+    ArePointed params names bs
+pointed_fewer [] bs names low a = a
+pointed_fewer (b ∷ more) bs names low a =
+    pointed_fewer more bs names low (one_fewer b (more ++ bs) names (omega (arith, low, length-append more bs)) a)
+
+pub pointed_cut : {params : ℕ} (bs : List Bound) (names : List Value) (n : ℕ) → length bs ≤ n → AreOf IsOf bs names → ArePointed params names bs →
+    ArePointed params (take n names) bs
 pointed_cut bs names n l o a = pointed_same bs names (take n names) n l (λ k low. get_or-take n names k nothing low) o a
 
 -- another value in the place of one that is no region
@@ -181,21 +200,28 @@ region_kept names k v none p q e = by (k == p) refl
     by true c = absurd (none q (ap (λ n. get_or names n nothing) (eqb-true k p c) ∙ e))
     by false c = get_or-set_other names k p v nothing (λ d. eqb-false k p c (sym d)) ∙ e
 
-pub pointed_set : (bs : List Bound) (names : List Value) (k : ℕ) (v : Value) → k < length names →
-    IsNoRegion (get_or names k nothing) → GoAlike (get_or names k nothing) v → ArePointed bs names → ArePointed bs (slice_set names k v)
-pointed_set [] names k v room none alike a = tt
-pointed_set (b ∷ bs) names k v room none alike a = (
-  pointed_stays bs names (slice_set names k v) b.static_type (get_or (slice_set names k v) b.place nothing)
-      (λ p q low e. region_kept names k v none p q e) (own (k == b.place) refl),
-  pointed_set bs names k v room none alike a.1,
-)
-  where
-    own : (c : Bool) → (k == b.place) ≡ c → IsPointed bs names b.static_type (get_or (slice_set names k v) b.place nothing)
-    own true c = subst (λ p. IsPointed bs names b.static_type (get_or (slice_set names k v) p nothing)) (eqb-true k b.place c)
-        (subst (IsPointed bs names b.static_type) (sym (get_or-set_same names k v nothing room))
-        (alike bs names b.static_type (subst (λ p. IsPointed bs names b.static_type (get_or names p nothing)) (sym (eqb-true k b.place c)) a.0)))
-    own false c = subst (IsPointed bs names b.static_type)
-        (sym (get_or-set_other names k b.place v nothing (λ d. eqb-false k b.place c (sym d)))) a.0
+module _ (names : List Value) (k : ℕ) (v : Value) (room : k < length names) (none : IsNoRegion (get_or names k nothing))
+    (alike : GoAlike (get_or names k nothing) v) where
+  set_at : (all : List Bound) (b : Bound) → IsPointed all names b.static_type (get_or names b.place nothing) →
+      IsPointed all (slice_set names k v) b.static_type (get_or (slice_set names k v) b.place nothing)
+  set_at all b a =
+      pointed_stays all names (slice_set names k v) b.static_type (get_or (slice_set names k v) b.place nothing)
+      (λ p q low e. region_kept names k v none p q e) (own (k == b.place) refl)
+    where
+      own : (c : Bool) → (k == b.place) ≡ c → IsPointed all names b.static_type (get_or (slice_set names k v) b.place nothing)
+      own true c = subst (λ p. IsPointed all names b.static_type (get_or (slice_set names k v) p nothing)) (eqb-true k b.place c)
+          (subst (IsPointed all names b.static_type) (sym (get_or-set_same names k v nothing room))
+          (alike all names b.static_type (subst (λ p. IsPointed all names b.static_type (get_or names p nothing)) (sym (eqb-true k b.place c)) a)))
+      own false c = subst (IsPointed all names b.static_type)
+          (sym (get_or-set_other names k b.place v nothing (λ d. eqb-false k b.place c (sym d)))) a
+
+  set_in : (all bs : List Bound) → ArePointedIn all bs names → ArePointedIn all bs (slice_set names k v)
+  set_in all [] a = tt
+  set_in all (b ∷ bs) a = (set_at all b a.0, set_in all bs a.1)
+
+  pub pointed_set : (params : ℕ) (bs : List Bound) → ArePointed params names bs → ArePointed params (slice_set names k v) bs
+  pointed_set params _ (given_pointed bs e a) = given_pointed bs e (set_in bs bs a)
+  pointed_set params _ (more_pointed b bs p a) = more_pointed b bs (set_at bs b p) (pointed_set params bs a)
 
 -- ---- by numbers
 
@@ -210,7 +236,7 @@ bound_below Kind none next (b ∷ bs) i f r = chosen (b.number == i) (λ r. omeg
     chosen true more r = f.0
     chosen false more r = more r
 
-found_below : (next : ℕ) (bs : List Bound) (i : ℕ) → Falls next bs → IsRegion (bound_as bs i).static_type → (bound_as bs i).number < next
+pub found_below : (next : ℕ) (bs : List Bound) (i : ℕ) → Falls next bs → IsRegion (bound_as bs i).static_type → (bound_as bs i).number < next
 found_below next bs i f r = bound_below IsRegion (λ r. elim r [ ]) next bs i f r
 
 cut_below : (next : ℕ) (bs : List Bound) (i : ℕ) → Falls next bs → IsPartition (bound_as bs i).static_type → (bound_as bs i).number < next
@@ -284,15 +310,25 @@ pointed_wider b bs names t (a_region q) f a = tt
 pointed_wider b bs names t (a_partition q) f a = cut_wider b bs names (parent_of t) q f a
 
 -- the pointer of a name goes to regions of names in scope
-pub named_pointed : (next : ℕ) (bs : List Bound) (names : List Value) (n : Name) → Falls next bs → ArePointed bs names →
+named_in : (all bs : List Bound) (names : List Value) (n : Name) → ArePointedIn all bs names → is_bound bs n ≡ true →
+    IsPointed all names (bound_to bs n).static_type (get_or names (bound_to bs n).place nothing)
+named_in all [] names n a h = absurd (not_true h)
+named_in all (b ∷ bs) names n a h = chosen (bytes_eq b.name n) (named_in all bs names n a.1) h
+  where
+    chosen : (c : Bool) → (is_bound bs n ≡ true → IsPointed all names (bound_to bs n).static_type (get_or names (bound_to bs n).place nothing)) →
+        (c || is_bound bs n) ≡ true → IsPointed all names (cond c b (bound_to bs n)).static_type (get_or names (cond c b (bound_to bs n)).place nothing)
+    chosen true more e = a.0
+    chosen false more e = more e
+
+pub named_pointed : {params : ℕ} (next : ℕ) (bs : List Bound) (names : List Value) (n : Name) → Falls next bs → ArePointed params names bs →
     is_bound bs n ≡ true → IsPointed bs names (bound_to bs n).static_type (get_or names (bound_to bs n).place nothing)
-named_pointed next [] names n f a h = absurd (not_true h)
-named_pointed next (b ∷ bs) names n f a h = chosen (bytes_eq b.name n) (named_pointed b.number bs names n f.1 a.1) h
+named_pointed next _ names n f (given_pointed bs e a) h = named_in bs bs names n a h
+named_pointed next _ names n f (more_pointed b bs p a) h = chosen (bytes_eq b.name n) (named_pointed b.number bs names n f.1 a) h
   where
     chosen : (c : Bool) → (is_bound bs n ≡ true →
         IsPointed bs names (bound_to bs n).static_type (get_or names (bound_to bs n).place nothing)) → (c || is_bound bs n) ≡ true →
         IsPointed (b ∷ bs) names (cond c b (bound_to bs n)).static_type (get_or names (cond c b (bound_to bs n)).place nothing)
-    chosen true more e = pointed_wider b bs names b.static_type (get_or names b.place nothing) f.1 a.0
+    chosen true more e = pointed_wider b bs names b.static_type (get_or names b.place nothing) f.1 p
     chosen false more e = pointed_wider b bs names (bound_to bs n).static_type (get_or names (bound_to bs n).place nothing) f.1 (more e)
 
 -- what holds of the value that a region's name has

@@ -90,6 +90,7 @@ module _ (x : Setting) (params slots : ℕ) (fit : SlotsFit x slots) (aside : As
           inside_store = g.inside_store;
           pointed = g.pointed;
           steady = g.steady;
+          under = g.under;
           besides = g.besides;
           count = g.count;
           inside = g.inside;

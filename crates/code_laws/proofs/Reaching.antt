@@ -117,6 +117,7 @@ rewritten x params slots aside h s i ps ts store same kept g holds = record {
   inside_store = all_inside x s.store store h.scope.names s.names same g.typed g.inside_store;
   pointed = g.pointed;
   steady = g.steady;
+  under = g.under;
   besides = subst (λ n. AreBeside (λ p. get_or i.frame.slots (beside (where_of params h) p) blank) i.contents params n h.scope.names s.names)
       (sym (length-map s.store shape_of) ∙ ap length (sym same) ∙ length-map store shape_of) g.besides;
   count = g.count;
@@ -194,12 +195,12 @@ touch_covered x store m own r q place n a (Some y) e (inl had) may framed there 
     framed.allows (record { root = q.root; field = place; point = n; access = a }) (le-leb (length x.before) q.root had.0) is
 touch_covered x store m own r q place n a (Some y) e (inr p) may framed there is =
     let touch : Touch = record { root = q.root; field = place; point = n; access = a } in
-    let f = Has-from_list_any (is_need y p.place place a) y.needs (subst (λ r. MayDo (Some y) r place a) p.named may p.below) in
+    let f = Has-from_list_any (is_need y p.place place a) y.needs (subst (λ r. MayDo (Some y) r place a) p.named may p.place p.up p.below) in
     let d = f.0 in
     let one = and_parts (is_part y p.place d.param) ((d.field == place) && allows d.mode a) f.2 in
     let two = and_parts (d.field == place) (allows d.mode a) one.1 in
     let lies = (part_lies y x.args p.place d.param (subst (λ t. AreParts x.args (pairs_taken t)) e framed.parts) one.0).1 q.root n
-    (ap (λ (r : Region). r.root) p.is, ap (λ (r : Region). has r.points n) p.is ∙ there) in
+    (p.within.1 q.root n (refl, there)) in
     framed.given d (subst (λ t. Contains (needs_taken t) d) (sym e) (Contains-from_Has y.needs d f.1)) touch
     (and_from (d.field == place) _ two.0 (and_from (allows d.mode a) _ two.1
     (and_from ((given_region x.args d.param).root == q.root) _ (eq-eqb (given_region x.args d.param).root q.root lies.0) lies.1))) is

@@ -136,7 +136,7 @@ module _ (x : Setting) (params slots : ℕ) (fit : SlotsFit x slots) (counts : C
       let rv = region_with ri q.points in
       one_round x params slots fit counts s.turns aside h h2 name t item body code (pos k) (machine.Region rv)
       (instr.NextPoint l c v true) s pc i (of_pointer kind sp args (r ∷ []) (point_target n 1) (q ∷ []) (near, omega arith)) tt
-      reach
+      reach (λ d e. absurd cc)
       (λ d goes. subst (λ (c : Region). (machine.Region rv ≡ machine_value i.contents (a_region c)) × (c.root < length s.store)) (only_one q d goes.regions)
       (ap (λ k. machine.Region (region_with k q.points)) (sym num), there)) low
       (record {

@@ -66,6 +66,7 @@ module _ (x : Setting) (params slots : ℕ) (fit : SlotsFit x slots) (aside : As
         inside_store = g.inside_store;
         pointed = g.pointed;
         steady = g.steady;
+        under = g.under;
         besides = beside_slots (λ p. get_or xs (beside w p) blank) (λ p. get_or (slice_set xs k v) (beside w p) blank) i.contents params
             (length s.store) h.scope.names s.names g.typed
             (λ p l e. get_or-set_other xs k (beside w p) v blank (λ q. omega (arith, q, l, e, low))) g.besides;

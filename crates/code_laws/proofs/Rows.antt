@@ -28,7 +28,7 @@ use Rattle.code_rules.specs.Expressions.{expr_code}
 use Rattle.code_rules.specs.Initializers.{beside_code, plain_code}
 use Rattle.code_rules.specs.Used.{greatest, above_all}
 use Rattle.code_laws.specs.Steps.{Setting, machine_of, placed, on_step, Leads, Ends}
-use Rattle.code_laws.specs.Standing.{Answering, program_of, Stands, machine_value, IsInside, IsOf, AreOf, of_index, of_integer, of_space, of_truth, nothing, Aside, where_of, Agrees, SlotsFit, Does, AreBeside, blank}
+use Rattle.code_laws.specs.Standing.{AreUnder, Answering, program_of, Stands, machine_value, IsInside, IsOf, AreOf, of_index, of_integer, of_space, of_truth, nothing, Aside, where_of, Agrees, SlotsFit, Does, AreBeside, blank}
 use Rattle.code_laws.specs.Pointers.{ArePointed}
 use Rattle.code_laws.specs.Simple.{IsScalar, IsSimple, scalar_integer, scalar_truth, simple_index, simple_integer, simple_space, simple_truth}
 use Rattle.code_laws.specs.Typed.{CountsDown}
@@ -115,8 +115,9 @@ same_scope x params slots aside h h2 s i e g = record {
   hidden = g.hidden;
   typed = subst (λ bs. AreOf IsOf bs s.names) e.0 g.typed;
   inside_store = subst (λ bs. AreOf (IsInside x s.store) bs s.names) e.0 g.inside_store;
-  pointed = subst (λ bs. ArePointed bs s.names) e.0 g.pointed;
+  pointed = subst (ArePointed params s.names) e.0 g.pointed;
   steady = g.steady;
+  under = subst (λ bs. AreUnder x.forms.takes bs s.names) e.0 g.under;
   besides = subst (λ bs. AreBeside (λ p. get_or i.frame.slots (beside (where_of params h) p) blank) i.contents params (length s.store) bs s.names) e.0 g.besides;
   count = g.count ∙ ap length e.0;
   inside = g.inside;
@@ -180,12 +181,12 @@ module _ (x : Setting) (params slots : ℕ) (fit : SlotsFit x slots) (counts : C
 
   -- a block leaves its names
   pub does_cut : (aside : Aside) (pc n : ℕ) (h h2 : Here) (i : Instance) (r : Result Going) →
-      Grown h.scope.names h2.scope.names → program_of h2 ≡ program_of h → n ≡ length h.scope.names → aside.upto ≤ n →
+      params ≤ length h.scope.names → Grown h.scope.names h2.scope.names → program_of h2 ≡ program_of h → n ≡ length h.scope.names → aside.upto ≤ n →
       Does x params slots aside i pc h2 r → Does x params slots aside i pc h (leaving n r)
-  does_cut aside pc n h h2 i (gives goes_on s) w tree e up d =
-      (d.0, d.1, cut x params slots fit aside h h2 n s d.0 w tree e up d.2)
-  does_cut aside pc n h h2 i (gives (returned v) s) w tree e up d = (d.0, d.1, d.2, d.3, d.4, d.5, d.6, d.7)
-  does_cut aside pc n h h2 i (fails f s) w tree e up d = d
+  does_cut aside pc n h h2 i (gives goes_on s) low w tree e up d =
+      (d.0, d.1, cut x params slots fit aside h h2 n s d.0 low w tree e up d.2)
+  does_cut aside pc n h h2 i (gives (returned v) s) low w tree e up d = (d.0, d.1, d.2, d.3, d.4, d.5, d.6, d.7)
+  does_cut aside pc n h h2 i (fails f s) low w tree e up d = d
 
   -- ---- jumps
 
@@ -233,6 +234,7 @@ module _ (x : Setting) (params slots : ℕ) (fit : SlotsFit x slots) (counts : C
     inside_store = g.inside_store;
     pointed = g.pointed;
     steady = g.steady;
+    under = g.under;
     besides = g.besides;
     count = g.count;
     inside = g.inside;
@@ -259,6 +261,7 @@ module _ (x : Setting) (params slots : ℕ) (fit : SlotsFit x slots) (counts : C
     inside_store = g.inside_store;
     pointed = g.pointed;
     steady = g.steady;
+    under = g.under;
     besides = g.besides;
     count = g.count;
     inside = g.inside;
@@ -362,10 +365,10 @@ module _ (x : Setting) (params slots : ℕ) (fit : SlotsFit x slots) (counts : C
 
   -- a block in its own scope
   pub scoped_by : (aside : Aside) (h : Here) (body : Block) (s : State) (pc : ℕ) (i j : Instance) →
-      Agrees x params slots aside h s j →
+      params ≤ length h.scope.names → Agrees x params slots aside h s j →
       Does x params slots aside i pc (record h { scope = scope_after_block h.tree h.scope body })
       (exec_block h body s) →
       Does x params slots aside i pc h (scoped (exec_block h body) s)
-  scoped_by aside h body s pc i j g d =
+  scoped_by aside h body s pc i j low g d =
       does_cut aside pc (length s.names) h (record h { scope = scope_after_block h.tree h.scope body }) i
-      (exec_block h body s) (block_grown h.tree h.scope body) refl g.count g.inside d
+      (exec_block h body s) low (block_grown h.tree h.scope body) refl g.count g.inside d

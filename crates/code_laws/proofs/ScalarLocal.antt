@@ -2,7 +2,7 @@
 use Rattle.std.proofs.Common.{◌≡◌, ◌∙◌, Bool, List, [], ◌∷◌, None, Option, Some, true, false, refl, ap, subst, sym}
 use Rattle.std.specs.Prelude.{cond, not, ◌&&◌, ◌||◌, ◌==◌}
 use Rattle.std.specs.List.{list_all}
-use Rattle.std.proofs.lemmas.Bool.{and_parts}
+use Rattle.std.proofs.lemmas.Bool.{and_parts, or_right}
 use Rattle.regent_tree.specs.Limits.{tasks_in}
 use Rattle.regent_tree.specs.Syntax.{Arms, Block, Expression, Expressions, Form, Initializer, ItemForm, ItemTree, Links, Name, Otherwise, Steps, TaskTree, Tree, a_link, a_statement, access_expr, alias_item, an_arm, an_expr, assert_form, assign_form, at_step, both_initializer, by_field_initializer, call_expr, call_form, cast_expr, chain_expr, convert_expr, do_form, either_initializer, else_block, equal_initializer, field_step, fill_form, for_in_form, for_to_form, if_form, image_initializer, import_item, is_null_expr, no_arm, no_else, no_expr, no_link, no_statement, no_step, null_expr, number_expr, plain_initializer, prefix_expr, preimage_initializer, print_form, region_initializer, return_form, space_expr, space_item, start_item, task_item, then_statement, truth_expr, var_form, while_form}
 use Rattle.regent_tree.specs.declared.expression.Operator.TheVariants.{And, Compare, Compute, Or}
@@ -13,7 +13,7 @@ use Rattle.regent_tree.specs.declared.types.TypeTerm.{TypeTerm}
 use Rattle.regent_tree.specs.declared.types.NumberTerm.{NumberTerm}
 use Rattle.regent_tree.specs.declared.types.NumberTerm.TheVariants as number
 use Rattle.regent_tree.specs.declared.types.TypeTerm.TheVariants as term
-use Rattle.local_form.specs.LocalForm.{Marked, all_go_back, goes_back, is_partition_term, is_pointer_term, is_taken_term, marked_param, with_pointer, converts_to, gives_pointer, is_difference, is_partition_name, keeps_pointer, is_kept_term, is_pointing, marked_by_term, takes_partition_off, takes_value, with_either, with_partition, are_local_arms, are_local_expressions, are_local_links, are_local_params, are_scalar_params, gives_scalar, is_local_block, is_local_else, is_local_expression, is_local_form, is_local_item, is_local_program, is_local_task, is_index_or_space, is_local_param, is_local_with, is_region_term, links_give, marked_by, marked_by_arms, marked_by_else, marked_by_item, marked_by_items, marked_by_task, marked_in, marked_params, unmarked, with_index, with_region}
+use Rattle.local_form.specs.LocalForm.{Marked, is_partition_term, is_pointer_term, is_taken_term, marked_param, with_pointer, converts_to, gives_pointer, is_difference, is_partition_name, keeps_pointer, is_kept_term, is_pointing, marked_by_term, begins_part, takes_part, takes_partition_off, takes_value, with_either, with_part, with_partition, are_local_arms, are_local_expressions, are_local_links, are_local_params, are_scalar_params, gives_scalar, is_local_block, is_local_else, is_local_expression, is_local_form, is_local_item, is_local_program, is_local_task, is_index_or_space, is_local_param, is_local_with, is_region_term, links_give, marked_by, marked_by_arms, marked_by_else, marked_by_item, marked_by_items, marked_by_task, marked_in, marked_params, unmarked, with_index, with_region, is_said_term, takes_signs}
 use Rattle.code_laws.specs.LocalPrograms.{has_no_pointer, keeps_nothing, takes_scalars}
 use Rattle.code_laws.proofs.Typing.{no_way_back}
 use Rattle.scalar_form.specs.ScalarForm.{are_scalar_arms, are_scalar_expressions, are_scalar_links, is_empty, is_scalar_block, is_scalar_else, is_scalar_expression, is_scalar_form, is_scalar_if_said, is_scalar_item, is_scalar_number, is_scalar_program, is_scalar_task, is_scalar_term}
@@ -28,7 +28,7 @@ or_true false = refl
 module _ (keeping : Bool) where
   -- no marks, where indices and pointers may be assigned or may not
   abbrev bare : Marked
-  bare = record { regions = []; partitions = []; indices = []; pointers = []; index_fields = []; pointer_fields = []; keeps = keeping }
+  bare = record { regions = []; partitions = []; indices = []; pointers = []; index_fields = []; pointer_fields = []; keeps = keeping; parts = false }
 
   takes : (n : Name) → takes_value bare n ≡ true
   takes n = ap (λ k. k && true) (or_true keeping)
@@ -51,7 +51,10 @@ module _ (keeping : Bool) where
           ap (λ b. links_give bare b rest) a.1 ∙ l.1,
         )
     expression_local (prefix_expr signs e) sc =
-        let a = expression_local e sc in (both_true (gives_scalar bare e) (is_local_expression bare e) a.1 a.0, refl)
+        let a = expression_local e sc in (
+          both_true (takes_signs bare signs (gives_scalar bare e)) (is_local_expression bare e) (ap (takes_signs bare signs) a.1) a.0,
+          a.1,
+        )
     expression_local (access_expr n no_step) sc = (refl, refl)
     expression_local (access_expr n (field_step _ _)) sc = absurd (no_way_back sc)
     expression_local (access_expr n (at_step _ _)) sc = absurd (no_way_back sc)
@@ -126,23 +129,20 @@ module _ (keeping : Bool) where
 
   no_difference : (e : Expression) → is_difference bare e ≡ false
   no_difference (chain_expr first rest) = ap (λ b. b && takes_partition_off bare rest) (no_partition_name first)
-  no_difference (access_expr _ _) = refl
-  no_difference (number_expr _ _) = refl
-  no_difference (truth_expr _) = refl
-  no_difference (prefix_expr _ _) = refl
-  no_difference (call_expr _ _) = refl
-  no_difference (convert_expr _ _) = refl
-  no_difference (is_null_expr _) = refl
-  no_difference (null_expr _) = refl
-  no_difference (cast_expr _ _) = refl
-  no_difference (space_expr _ _) = refl
+  no_difference _ = refl
+
+  -- nor is a part taken
+  no_part : (e : Expression) → takes_part bare e ≡ false
+  no_part (access_expr n (at_step e no_step)) = refl
+  no_part _ = refl
 
   -- a variable that is a number or truth
-  scalar_kept : (n : Name) (t : TypeTerm) → is_scalar_term t ≡ true → (is_kept_term bare n t ≡ true) × (marked_by_term n t bare ≡ bare)
-  scalar_kept n (term.Number number.Int32) sc = (refl, refl)
-  scalar_kept n (term.Number number.Int64) sc = (refl, refl)
+  scalar_kept : (n : Name) (t : TypeTerm) → is_scalar_term t ≡ true →
+      (is_kept_term bare n t ≡ true) × (is_said_term bare n t ≡ true) × (marked_by_term n t bare ≡ bare)
+  scalar_kept n (term.Number number.Int32) sc = (refl, refl, refl)
+  scalar_kept n (term.Number number.Int64) sc = (refl, refl, refl)
   scalar_kept n (term.Number (number.Index k)) sc = absurd (no_way_back sc)
-  scalar_kept n term.Truth sc = (refl, refl)
+  scalar_kept n term.Truth sc = (refl, refl, refl)
   scalar_kept n (term.Pointer p) sc = absurd (no_way_back sc)
   scalar_kept n (term.Ispace k) sc = absurd (no_way_back sc)
   scalar_kept n (term.Region k u) sc = absurd (no_way_back sc)
@@ -154,19 +154,21 @@ module _ (keeping : Bool) where
 
   var_local : (n : Name) (t : Option TypeTerm) (i : Option Initializer) → is_scalar_form (var_form n t i) ≡ true → IsLocalForm (var_form n t i)
   var_local n None None sc = (refl, refl)
-  var_local n (Some t) None sc = scalar_kept n t (and_parts (is_scalar_term t) true sc).0
+  var_local n (Some t) None sc = let k = scalar_kept n t (and_parts (is_scalar_term t) true sc).0 in (k.0, k.2)
   var_local n None (Some (plain_initializer e)) sc =
       let a = expression_local e sc in (
-        ap (λ b. (b || false) && (keeps_pointer bare n e && ((is_difference bare e && false) || is_local_expression bare e))) a.1
+        or_right (begins_part bare n e) _ (ap (λ b. (b || false) && (keeps_pointer bare n e && ((is_difference bare e && false) || is_local_expression bare e))) a.1
             ∙ ap (λ b. (not b || (is_pointing e && false)) && ((is_difference bare e && false) || is_local_expression bare e)) (none_points e sc)
-            ∙ ap (λ b. (b && false) || is_local_expression bare e) (no_difference e) ∙ a.0,
-        ap (λ b. cond b (with_partition n bare) (cond (gives_scalar bare e) bare (with_either (gives_pointer bare e) n bare))) (no_difference e)
+            ∙ ap (λ b. (b && false) || is_local_expression bare e) (no_difference e) ∙ a.0),
+        ap (λ b. cond b (with_partition n bare) (cond (takes_part bare e) (with_part n bare) (cond (gives_scalar bare e) bare (with_either (gives_pointer bare e) n bare))))
+            (no_difference e)
+            ∙ ap (λ b. cond b (with_part n bare) (cond (gives_scalar bare e) bare (with_either (gives_pointer bare e) n bare))) (no_part e)
             ∙ ap (λ b. cond b bare (with_either (gives_pointer bare e) n bare)) a.1,
       )
   var_local n (Some t) (Some (plain_initializer e)) sc =
       let s = and_parts (is_scalar_term t) (is_scalar_expression e) sc in
       let k = scalar_kept n t s.0 in
-      (both_true (is_kept_term bare n t) (is_local_expression bare e) k.0 (expression_local e s.1).0, k.1)
+      (both_true (is_said_term bare n t) (is_local_expression bare e) k.1 (expression_local e s.1).0, k.2)
   var_local n t (Some (region_initializer _ _)) sc = absurd (no_way_back (and_parts (is_scalar_if_said t) false sc).1)
   var_local n t (Some (equal_initializer _ _)) sc = absurd (no_way_back (and_parts (is_scalar_if_said t) false sc).1)
   var_local n t (Some (by_field_initializer _ _ _)) sc = absurd (no_way_back (and_parts (is_scalar_if_said t) false sc).1)
@@ -295,20 +297,6 @@ params_local m (p ∷ ps) e =
     let both = and_parts (is_scalar_term p.term) (are_scalar_params ps) e in
     both_true (is_local_param m p) (are_local_params m ps) (scalar_taken m p.name p.term both.0) (params_local m ps both.1)
 
-scalar_back : (m : Marked) (t : TypeTerm) → is_scalar_term t ≡ true → goes_back m t ≡ true
-scalar_back m (term.Number n) e = refl
-scalar_back m term.Truth e = refl
-scalar_back m (term.Pointer p) e = absurd (no_way_back e)
-scalar_back m (term.Ispace k) e = refl
-scalar_back m (term.Region k u) e = refl
-scalar_back m (term.Partition d r c) e = absurd (no_way_back e)
-
-params_back : (m : Marked) (ps : List Param) → are_scalar_params ps ≡ true → all_go_back m ps ≡ true
-params_back m [] e = refl
-params_back m (p ∷ ps) e =
-    let both = and_parts (is_scalar_term p.term) (are_scalar_params ps) e in
-    both_true (goes_back m p.term) (all_go_back (marked_param p m) ps) (scalar_back m p.term both.0) (params_back (marked_param p m) ps both.1)
-
 -- a task is of the form without marks
 task_bare : (k : Bool) (t : TaskTree) → IsScalarTask t → is_local_with (bare k) t ≡ true
 task_bare k t s = both_true (are_local_params (bare k) t.params) _ (params_local (bare k) t.params s.params)
@@ -337,9 +325,7 @@ scalar_marks tree t all s =
 
 task_is_local : (tree : Tree) (t : TaskTree) → AreScalar tree → is_scalar_task t ≡ true → is_local_task tree t ≡ true
 task_is_local tree t all e =
-    let s = scalar_task t e in
-    both_true (all_go_back unmarked t.params) _ (params_back unmarked t.params s.params)
-    (subst (λ m. is_local_with m t ≡ true) (sym (scalar_marks tree t all s)) (task_bare true t s))
+    let s = scalar_task t e in subst (λ m. is_local_with m t ≡ true) (sym (scalar_marks tree t all s)) (task_bare true t s)
 
 item_is_local : (tree : Tree) (i : ItemForm) → AreScalar tree → is_scalar_item i ≡ true → is_local_item tree i ≡ true
 item_is_local tree import_item all e = refl

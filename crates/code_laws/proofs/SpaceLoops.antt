@@ -108,7 +108,7 @@ module _ (x : Setting) (params slots : ℕ) (fit : SlotsFit x slots) (counts : C
       let room : v < length i.frame.slots = omega (arith, used.2, g.slots_are) in
       let m0 = machine_of (placed pc [] i) in
       one_round x params slots fit counts s.turns aside h h2 name (index_type kind) (an_index (pos k)) body code (pos k) (machine.Space n)
-      (instr.NextPoint l c v false) s pc i (of_index kind (pos k) fits) tt tt (λ q goes. absurd (none_there q goes.regions)) low
+      (instr.NextPoint l c v false) s pc i (of_index kind (pos k) fits) tt tt (λ q e. absurd cc) (λ q goes. absurd (none_there q goes.regions)) low
       (record {
         back = lt-ltb (past code (suc pc)) to (omega arith);
         counts_in = used.1;

@@ -3,14 +3,11 @@ use Rattle.code_laws.proofs.Behind.{folds_behind, sets_behind}
 use Rattle.code_laws.proofs.Moving.{assigned_runs, assigns}
 use Rattle.code_laws.proofs.FurtherWrites.{behind_reduced, behind_set, element_reduced, element_set}
 use Rattle.code_laws.proofs.Domains.{domains_run}
-use Rattle.code_laws.proofs.PointerForms.{begins_run, declares_run, itself_run}
-use Rattle.code_laws.proofs.Pointing.{region_pointed}
-use Rattle.code_laws.proofs.Wider.{any_field, assigned, beginning, begun, counting, keepable, zeroed}
-use Rattle.code_laws.proofs.States.{ready_value}
-use Rattle.code_laws.proofs.Variables.{GoodInside, binds, fill_runs, region_runs}
+use Rattle.code_laws.proofs.PointerForms.{declares_run, itself_run}
+use Rattle.code_laws.proofs.Wider.{any_field, assigned, beginning, counting, zeroed}
+use Rattle.code_laws.proofs.Variables.{fill_runs}
+use Rattle.code_laws.proofs.Begun.{begun_runs, like_itself}
 use Rattle.code_laws.proofs.Elements.{folds_element, sets_element}
-use Rattle.regent_tree.specs.Initializers.{colours, initial_value, make_root, partitioned, read_all, region_named}
-use Rattle.regent_tree.specs.Partitions.{both_flag, by_field_flag, by_field_sets, either_flag, equal_flag, equal_sets, preimage_flag}
 use Rattle.code_laws.proofs.Folds.{folds}
 use Rattle.code_laws.proofs.Loops.{counting_runs, integer_kept, loop_typed, turning_runs, from_fits, to_fits}
 use Rattle.code_rules.specs.Instructions.{place_of_task}
@@ -39,26 +36,23 @@ use Rattle.code_rules.specs.Statements.{form_code, arms_code, else_code, block_c
 use Rattle.code_rules.specs.Assignments.{right_code}
 use Rattle.code_laws.specs.Steps.{Setting, placed}
 use Rattle.code_laws.specs.Standing.{Stands, machine_value, blank, Aside, where_of, Agrees, SlotsFit, Does}
-use Rattle.code_laws.specs.Simple.{IsScalar, a_region_type}
-use Rattle.code_laws.specs.Typed.{CountsDown, IsKeepable, IsTyped, element_field, field_behind, AreTypedArms, IsTypedBlock, IsTypedElse, IsTypedForm}
+use Rattle.code_laws.specs.Simple.{IsScalar, a_partition_type, a_region_type}
+use Rattle.code_laws.specs.Typed.{CountsDown, element_field, field_behind, AreTypedArms, IsTypedBlock, IsTypedElse, IsTypedForm}
 use Rattle.code_laws.proofs.Runs.{leads_by, leads_none, leads_twice, ends_by, then, comes_said}
 use Rattle.code_laws.proofs.Values.{past_later}
 use Rattle.code_laws.proofs.Good.{valued, Good}
 use Rattle.code_laws.proofs.Operations.{converted_runs, fetch_small, alike_right, truth_of_type}
 use Rattle.code_laws.proofs.Expressions.{AreGiven, args_run, value_runs}
 use Rattle.code_laws.proofs.CallTakes.{call_takes}
-use Rattle.code_laws.proofs.Cuts.{GoodCut, equal_runs}
-use Rattle.code_laws.proofs.Differences.{cut_begins, difference_begins}
-use Rattle.code_laws.proofs.FieldCuts.{by_field_runs}
-use Rattle.code_laws.proofs.ImageCuts.{image_runs, preimage_runs}
-use Rattle.code_laws.proofs.PairCuts.{both_runs, either_runs}
 use Rattle.code_laws.proofs.Calling.{HasResult, calls_run, pending}
 use Rattle.code_laws.proofs.Prints.{pushed_all}
 use Rattle.regent_tree.specs.StaticTypes.{task_named}
 use Rattle.code_laws.proofs.PrintRuns.{values_run, prints}
 use Rattle.code_laws.proofs.Names.{form_grown, block_grown, arms_names, else_names}
-use Rattle.code_laws.proofs.States.{stored, stores, aside_stored}
-use Rattle.code_laws.proofs.Besides.{no_part_goes}
+use Rattle.code_laws.proofs.States.{aside_stored, ready_value, stored, stores}
+use Rattle.code_laws.proofs.Began.{whole_fresh}
+use Rattle.code_laws.proofs.PartVariables.{plain_begins}
+use Rattle.code_laws.proofs.Under.{type_under, whole_under}
 
 module _ (x : Setting) (params slots : ℕ) (fit : SlotsFit x slots) (counts : CountsDown) where
   -- ---- statements
@@ -70,10 +64,7 @@ module _ (x : Setting) (params slots : ℕ) (fit : SlotsFit x slots) (counts : C
         Does x params slots aside (placed pc [] i) (past (form_code (where_of params h) form) pc)
         (after_statement h form) (exec h form s)
     form_runs aside h (var_form n None (Some (plain_initializer e))) s pc i low fine g f =
-        ⊎_elim (λ (p : IsKeepable x.forms.keeps (where_of params h) e × IsTyped x.forms (where_of params h) e).
-        begins_run x params slots fit counts aside h n e s pc i low (keepable x.forms.keeps (where_of params h) e p.0) p.1 g f)
-        (λ d. difference_begins x params slots fit counts aside h n e s pc i low d g f)
-        (begun x.forms.keeps (where_of params h) e (IsKeepable x.forms.keeps (where_of params h) e × IsTyped x.forms (where_of params h) e) fine)
+        plain_begins x params slots fit counts aside h n e s pc i low fine g f
     form_runs aside h (var_form n (Some t) (Some (plain_initializer e))) s pc i low fine g f =
         declares_run x params slots fit counts aside h n t e s pc i low (beginning x.forms.keeps h.scope.names _ _ fine.0) fine.1 g f
     form_runs aside h (var_form n (Some t) None) s pc i low fine g f =
@@ -129,7 +120,7 @@ module _ (x : Setting) (params slots : ℕ) (fit : SlotsFit x slots) (counts : C
         (alike_right x params slots fit aside t h.result fine.0) k2.1.result_is k2.0 k2.1 f.1.1))
     form_runs aside h (do_form body) s pc i low fine g f =
         does_as x params slots fit counts aside _ h (after_statement h (do_form body)) _ _ (refl, refl)
-        (scoped_by x params slots fit counts aside h body s _ _ i g (block_runs aside h body s pc i low fine g f))
+        (scoped_by x params slots fit counts aside h body s _ _ i low g (block_runs aside h body s pc i low fine g f))
     form_runs aside h (if_form arms other) s pc i low fine g f =
         let w = where_of params h in
         let e = arms_names h.tree h.scope arms in
@@ -149,7 +140,7 @@ module _ (x : Setting) (params slots : ℕ) (fit : SlotsFit x slots) (counts : C
         (does_as x params slots fit counts aside _ h (after_statement h (while_form test body)) _ _ (refl, refl)
         (turning_runs x params slots fit counts s.turns aside h test (scoped (exec_block h body)) (block_code w body) s pc i
         low fine.0 fine.1 g.bound (relimit x params slots fit counts aside s.turns h s i (omega arith) g) f
-        (λ n s1 j k. scoped_by x params slots fit counts _ h body s1 _ _ j k
+        (λ n s1 j k. scoped_by x params slots fit counts _ h body s1 _ _ j low k
         (block_runs (record aside { turns = n }) h body s1 (suc (suc pc)) j low fine.2 k f.2))))
     form_runs aside h (for_to_form demanded n from to body) s pc i low fine g f =
         let w = where_of params h in
@@ -199,65 +190,10 @@ module _ (x : Setting) (params slots : ℕ) (fit : SlotsFit x slots) (counts : C
         (λ aside2 s5 j5 g5. block_runs aside2 (looping h n a) body s5 (suc (suc (suc p))) j5
         (omega (arith, low)) fine.4 g5 f.1.1.1.1.1)))))
     form_runs aside h (var_form n None None) s pc i low fine g f = absurd fine
-    form_runs aside h (var_form n None (Some (region_initializer e u))) s pc i low fine g f =
-        let w = where_of params h in
-        let start = Some (region_initializer e u) in
-        let t = var_type h.tree h.scope None start in
-        let a = past (expr_code w 0 e) pc in
-        then x (does_said x params slots fit counts aside (suc (suc a)) (after_statement h (var_form n None start))) (valued (suc a) [])
-        (GoodInside x params slots fit counts aside h t) _ (initial_value h None t start s) (λ v. bind v)
-        (then x (comes_said x _ _) (valued a []) (Good x params slots fit aside h (typed w e)) _ (value h e s)
-        (λ v. make_root h u (size_of v)) (value_runs x params slots fit aside h 0 low e s pc [] i fine.2 g f.0.0)
-        (λ v s1 j k. region_runs x params slots fit counts aside h (typed w e) v u s1 a j _ _ _ fine.0 fine.1 fine.3 fine.4 k.0 k.1 f.0.1 (fetch_small x.body (suc a) _ f.1)))
-        (λ v s1 j k. binds x params slots fit counts aside h n None start v s1 (suc a) j low k.0 k.1
-        (region_pointed h.scope.names s1.names t v (a_region_type _ _ _ _) k.0)
-        (no_part_goes _ j.contents (length s1.store) t v (λ p c e. absurd cc)) k.2 f.1)
-    form_runs aside h (var_form n (Some t) (Some (region_initializer _ _))) s pc i low fine g f = absurd fine
-    form_runs aside h (var_form n None (Some (equal_initializer r e))) s pc i low fine g f =
-        let w = where_of params h in
-        let start = Some (equal_initializer r e) in
-        let t = var_type h.tree h.scope None start in
-        let a = past (expr_code w 0 e) pc in
-        then x (does_said x params slots fit counts aside (suc (suc a)) (after_statement h (var_form n None start))) (valued (suc a) [])
-        (GoodCut x params slots fit aside h t) _ (initial_value h None t start s) (λ v. bind v)
-        (then x (comes_said x _ _) (valued a []) (Good x params slots fit aside h (typed w e)) _ (value h e s)
-        (λ v. λ s1. and_then (colours h v s1) (λ k. λ s2. and_then (region_named h r s2) (λ q. given (partitioned q.root equal_flag (equal_sets q.points k)))))
-        (value_runs x params slots fit aside h 0 low e s pc [] i fine.2 g f.0.0)
-        (λ v s1 j k. equal_runs x params slots fit aside h (typed w e) v r h.scope.next s1 a j fine.1 fine.3 k.0 k.1 f.0.1 (fetch_small x.body (suc a) _ f.1)))
-        (λ v s1 j k. binds x params slots fit counts aside h n None start v s1 (suc a) j low k.0 k.1 k.2
-        (no_part_goes _ j.contents (length s1.store) t v (λ p c e. absurd cc)) k.3 f.1)
-    form_runs aside h (var_form n (Some t) (Some (equal_initializer _ _))) s pc i low fine g f = absurd fine
-    form_runs aside h (var_form n None (Some (by_field_initializer r f2 e))) s pc i low fine g f =
-        let w = where_of params h in
-        let start = Some (by_field_initializer r f2 e) in
-        let t = var_type h.tree h.scope None start in
-        let a = past (expr_code w 0 e) pc in
-        then x (does_said x params slots fit counts aside (suc (suc a)) (after_statement h (var_form n None start))) (valued (suc a) [])
-        (GoodCut x params slots fit aside h t) _ (initial_value h None t start s) (λ v. bind v)
-        (then x (comes_said x _ _) (valued a []) (Good x params slots fit aside h (typed w e)) _ (value h e s)
-        (λ v. λ s1. and_then (colours h v s1) (λ k. λ s2. and_then (region_named h r s2) (λ q. λ s3. and_then (read_all h (static_type_of h r) q f2 s3)
-        (λ c. given (partitioned q.root by_field_flag (by_field_sets q.points c.numbers k))))))
-        (value_runs x params slots fit aside h 0 low e s pc [] i fine.2 g f.0.0)
-        (λ v s1 j k. by_field_runs x params slots fit aside h (typed w e) v r f2 h.scope.next s1 a j fine.1 fine.3 k.0 k.1 f.0.1 (fetch_small x.body (suc a) _ f.1)))
-        (λ v s1 j k. binds x params slots fit counts aside h n None start v s1 (suc a) j low k.0 k.1 k.2
-        (no_part_goes _ j.contents (length s1.store) t v (λ p c e. absurd cc)) k.3 f.1)
-    form_runs aside h (var_form n (Some t) (Some (by_field_initializer _ _ _))) s pc i low fine g f = absurd fine
-    form_runs aside h (var_form n None (Some (image_initializer a p r f2))) s pc i low fine g f =
-        cut_begins x params slots fit counts aside h n (image_initializer a p r f2) s pc i low (λ p c e. absurd cc)
-        (image_runs x params slots fit aside h a p r f2 h.scope.next s pc i fine.1 fine.2 fine.3 fine.4 g f.0 (fetch_small x.body (suc pc) _ f.1)) f.1
-    form_runs aside h (var_form n (Some t) (Some (image_initializer _ _ _ _))) s pc i low fine g f = absurd fine
-    form_runs aside h (var_form n None (Some (preimage_initializer a p r f2))) s pc i low fine g f =
-        cut_begins x params slots fit counts aside h n (preimage_initializer a p r f2) s pc i low (λ p c e. absurd cc)
-        (preimage_runs x params slots fit aside h a p r f2 (preimage_flag (is_disjoint (bound_to h.scope.names p).static_type)) h.scope.next s pc i fine.1 fine.2 fine.3 fine.4 g f.0 (fetch_small x.body (suc pc) _ f.1)) f.1
-    form_runs aside h (var_form n (Some t) (Some (preimage_initializer _ _ _ _))) s pc i low fine g f = absurd fine
-    form_runs aside h (var_form n None (Some (both_initializer p q))) s pc i low fine g f =
-        cut_begins x params slots fit counts aside h n (both_initializer p q) s pc i low (λ p c e. absurd cc)
-        (both_runs x params slots fit aside h p q (both_flag (is_disjoint (bound_to h.scope.names p).static_type) (is_disjoint (bound_to h.scope.names q).static_type)) h.scope.next s pc i fine.1 g f.0 (fetch_small x.body (suc pc) _ f.1)) f.1
-    form_runs aside h (var_form n (Some t) (Some (both_initializer _ _))) s pc i low fine g f = absurd fine
-    form_runs aside h (var_form n None (Some (either_initializer p q))) s pc i low fine g f =
-        cut_begins x params slots fit counts aside h n (either_initializer p q) s pc i low (λ p c e. absurd cc)
-        (either_runs x params slots fit aside h p q (either_flag) h.scope.next s pc i fine.1 g f.0 (fetch_small x.body (suc pc) _ f.1)) f.1
-    form_runs aside h (var_form n (Some t) (Some (either_initializer _ _))) s pc i low fine g f = absurd fine
+    form_runs aside h (var_form n None (Some start)) s pc i low fine g f =
+        begun_runs x params slots fit counts aside h n None start s pc i low (like_itself x.forms (where_of params h) h.tree h.scope h.scope.next start fine) fine g f
+    form_runs aside h (var_form n (Some t) (Some start)) s pc i low fine g f =
+        begun_runs x params slots fit counts aside h n (Some t) start s pc i low fine.1 fine.2 g f
     form_runs aside h (for_in_form demanded n domain body) s pc i low fine g f =
         domains_run x params slots fit counts aside h demanded n domain body s pc i low _ fine g f
         (λ fine_body aside2 s5 p j5 g5 f5. block_runs aside2 (looping h n (taken_from (typed (where_of params h) domain))) body s5 p j5 (omega (arith, low)) fine_body g5 f5)
@@ -364,7 +300,7 @@ module _ (x : Setting) (params slots : ℕ) (fit : SlotsFit x slots) (counts : C
         tests x params slots fit counts p (suc b) h.line j v s1 (scoped (exec_block h body)) _ _ said
         (truth_of_type x params slots fit aside t v fine.0 k.0) near f.1.0
         (then_leads x params slots fit counts aside b (past r (suc b)) h0 _ _
-        (does_as x params slots fit counts aside b h h0 _ _ e (scoped_by x params slots fit counts aside h body s1 _ _ j g1
+        (does_as x params slots fit counts aside b h h0 _ _ e (scoped_by x params slots fit counts aside h body s1 _ _ j (omega (arith, low, ap length o.0)) g1
         (block_runs aside h body s1 (suc p) j (omega (arith, low, ap length o.0)) fine.2 g1 f.1.1)))
         (λ j2. jumps_later x params slots fit counts b (past r (suc b)) h.line j2 far f.1.2))
         (arms_run aside own (after_arm h body) h0 rest other oc s1 (suc b) j low o e fine.3
@@ -377,7 +313,7 @@ module _ (x : Setting) (params slots : ℕ) (fit : SlotsFit x slots) (counts : C
         (exec_else h other s)
     else_runs aside h no_else s pc i low fine g f = (i, leads_none x _, g)
     else_runs aside h (else_block body) s pc i low fine g f =
-        scoped_by x params slots fit counts aside h body s _ _ i g (block_runs aside h body s pc i low fine g f)
+        scoped_by x params slots fit counts aside h body s _ _ i low g (block_runs aside h body s pc i low fine g f)
 
     pub block_runs : (aside : Aside) (h : Here) (body : Block) (s : State) (pc : ℕ) (i : Instance) →
         params ≤ length h.scope.names → IsTypedBlock x.forms (where_of params h) body →

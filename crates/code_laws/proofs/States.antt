@@ -22,12 +22,13 @@ use Rattle.code_rules.specs.Programs.{space_code}
 use Rattle.regent_tree.specs.StaticTypes.{spaces_of}
 use Rattle.code_rules.specs.Slots.{slot, counter, beside}
 use Rattle.code_laws.specs.Steps.{Setting, machine_of, placed, on_step, Leads}
-use Rattle.code_laws.specs.Standing.{Answering, AreBeside, GoesToPart, program_of, Stands, machine_value, IsInside, IsOf, AreOf, AreReady, nothing, blank, Aside, where_of, Agrees, RegionsStay, SlotsFit}
+use Rattle.code_laws.specs.Standing.{Answering, AreBeside, AreUnder, GoesToPart, program_of, Stands, machine_value, IsInside, IsOf, IsUnder, AreOf, AreReady, nothing, blank, Aside, where_of, Agrees, RegionsStay, SlotsFit}
 use Rattle.code_laws.proofs.Runs.{leads_by}
 use Rattle.code_laws.proofs.Values.{named}
 use Rattle.code_laws.specs.Pointers.{ArePointed, IsPointed}
 use Rattle.code_laws.proofs.Besides.{beside_changes, beside_cut, beside_fewer, beside_set, beside_slots}
 use Rattle.code_laws.proofs.Names.{Grown, typed_more, typed_cut, typed_set, typed_fewer}
+use Rattle.code_laws.proofs.Under.{alike_no_region, under_cut, under_fewer, under_more, under_set}
 use Rattle.code_laws.proofs.Pointing.{GoAlike, IsNoRegion, pointed_cut, pointed_fewer, pointed_more, pointed_set, region_kept}
 
 -- no value is a child that is pending
@@ -77,13 +78,13 @@ module _ (x : Setting) (params slots : ℕ) (fit : SlotsFit x slots) where
   pub bound_more : (o : Aside) (h : Here) (s : State) (i : Instance) (n : Name) (t : StaticType)
       (by_loop : Bool) (v : Value) → params ≤ length h.scope.names →
       slot (where_of params h) (length h.scope.names) < slots → IsOf t v → IsInside x s.store t v →
-      IsPointed h.scope.names s.names t v →
+      IsPointed h.scope.names s.names t v → IsUnder x.forms.takes h.scope.names s.names t v →
       ((q : Region) → GoesToPart t v q → (get_or i.frame.slots (beside (where_of params h) (length h.scope.names)) blank
       ≡ machine_value i.contents (a_region q)) × (q.root < length s.store)) →
       Agrees x params slots o h s i → Agrees x params slots o (record h { scope = with_name h.scope n t by_loop })
       (record s { names = s.names ++ v ∷ [] })
       (stored (slot (where_of params h) (length h.scope.names)) (machine_value i.contents v) i)
-  bound_more o h s i n t by_loop v low room ty inside pointed part g =
+  bound_more o h s i n t by_loop v low room ty inside pointed under part g =
       let w = where_of params h in
       let k = length h.scope.names in
       let c = g.count in
@@ -121,6 +122,8 @@ module _ (x : Setting) (params slots : ℕ) (fit : SlotsFit x slots) where
         pointed = pointed_more (record { name = n; number = h.scope.next; place = k; static_type = t; by_loop = by_loop })
             h.scope.names s.names v c refl g.typed pointed g.pointed;
         steady = λ p q l e. get_or-append s.names (v ∷ []) nothing p (omega (arith, l, g.inside)) ∙ g.steady p q l e;
+        under = under_more x.forms.takes (record { name = n; number = h.scope.next; place = k; static_type = t; by_loop = by_loop })
+            h.scope.names s.names v c refl g.typed under g.under;
         besides = (
           λ q goes.
               let f = part q (subst (λ u. GoesToPart t u q) last goes) in
@@ -187,8 +190,10 @@ module _ (x : Setting) (params slots : ℕ) (fit : SlotsFit x slots) where
         );
         typed = typed_set IsOf h.scope.names s.names n v (omega (arith, c)) b ty g.typed;
         inside_store = typed_set (IsInside x s.store) h.scope.names s.names n v (omega (arith, c)) b inside g.inside_store;
-        pointed = pointed_set h.scope.names s.names k v (omega (arith, low, c)) none alike g.pointed;
+        pointed = pointed_set s.names k v (omega (arith, low, c)) none alike params h.scope.names g.pointed;
         steady = λ p q l e. region_kept s.names k v none p q (g.steady p q l e);
+        under = under_set x.forms.takes h.scope.names s.names k v (omega (arith, low, c)) none
+            (alike_no_region (bound_to h.scope.names n).static_type (get_or s.names k nothing) v (named IsOf h.scope.names s.names n g.typed b).holding ty none) g.typed g.under;
         besides = beside_set (λ p. get_or xs (beside w p) blank) (λ p. get_or (slice_set xs (slot w k) m) (beside w p) blank) i.contents params
             (length s.store) h.scope.names s.names k v g.typed (omega (arith, low, c)) part
             (λ p l e. set_other xs (slot w k) (beside w p) m (λ q. omega (arith, q, l))) g.besides;
@@ -210,9 +215,9 @@ module _ (x : Setting) (params slots : ℕ) (fit : SlotsFit x slots) where
 
   -- a block's names are left
   pub cut : (o : Aside) (h : Here) (h2 : Here) (n : ℕ) (s : State) (i : Instance) →
-      Grown h.scope.names h2.scope.names → program_of h2 ≡ program_of h → n ≡ length h.scope.names → o.upto ≤ n →
+      params ≤ length h.scope.names → Grown h.scope.names h2.scope.names → program_of h2 ≡ program_of h → n ≡ length h.scope.names → o.upto ≤ n →
       Agrees x params slots o h2 s i → Agrees x params slots o h (record s { names = take n s.names }) i
-  cut o h h2 n s i grown tree e up g =
+  cut o h h2 n s i least grown tree e up g =
       let w = where_of params h in
       let many : length h2.scope.names ≡ length grown.more + length h.scope.names =
       ap length grown.are ∙ length-append grown.more h.scope.names in
@@ -229,8 +234,11 @@ module _ (x : Setting) (params slots : ℕ) (fit : SlotsFit x slots) where
             (subst (λ bs. AreOf (IsInside x s.store) bs s.names) grown.are g.inside_store));
         pointed = pointed_cut h.scope.names s.names n (omega (arith, e))
             (typed_fewer IsOf grown.more h.scope.names s.names (subst (λ bs. AreOf IsOf bs s.names) grown.are g.typed))
-            (pointed_fewer grown.more h.scope.names s.names (subst (λ bs. ArePointed bs s.names) grown.are g.pointed));
+            (pointed_fewer grown.more h.scope.names s.names least (subst (ArePointed params s.names) grown.are g.pointed));
         steady = λ p q l e. get_or-take n s.names p nothing (omega (arith, l, up)) ∙ g.steady p q l e;
+        under = under_cut x.forms.takes h.scope.names s.names n (omega (arith, e))
+            (typed_fewer IsOf grown.more h.scope.names s.names (subst (λ bs. AreOf IsOf bs s.names) grown.are g.typed))
+            (under_fewer x.forms.takes grown.more h.scope.names s.names (subst (λ bs. AreUnder x.forms.takes bs s.names) grown.are g.under));
         besides = beside_cut (λ p. get_or i.frame.slots (beside w p) blank) i.contents params (length s.store) h.scope.names s.names n (omega (arith, e))
             (typed_fewer IsOf grown.more h.scope.names s.names (subst (λ bs. AreOf IsOf bs s.names) grown.are g.typed))
             (beside_fewer (λ p. get_or i.frame.slots (beside w p) blank) i.contents params (length s.store) grown.more h.scope.names s.names
@@ -270,6 +278,7 @@ module _ (x : Setting) (params slots : ℕ) (fit : SlotsFit x slots) where
         inside_store = g.inside_store;
         pointed = g.pointed;
         steady = g.steady;
+        under = g.under;
         besides = beside_slots (λ p. get_or xs (beside w p) blank) (λ p. get_or (slice_set xs (slot w k + d) v) (beside w p) blank) i.contents params
             (length s.store) h.scope.names s.names g.typed
             (λ p l e. set_other xs (slot w k + d) (beside w p) v (λ q. omega (arith, q, l, e, names, some, few, low))) g.besides;
@@ -300,6 +309,7 @@ module _ (x : Setting) (params slots : ℕ) (fit : SlotsFit x slots) where
     inside_store = g.inside_store;
     pointed = g.pointed;
     steady = λ p q l e. e;
+    under = g.under;
     besides = g.besides;
     count = g.count;
     inside = l;
@@ -319,7 +329,7 @@ module _ (x : Setting) (params slots : ℕ) (fit : SlotsFit x slots) where
 
   -- and ends: the slots that were kept_number before it are those that were kept_number in it
   pub leaves_round : (o o2 : Aside) (h h2 : Here) (n : ℕ) (s s2 : State) (i j : Instance) →
-      o2.slots ≡ i.frame.slots → o.upto ≤ o2.upto → o2.turns ≤ o.turns →
+      params ≤ length h.scope.names → o2.slots ≡ i.frame.slots → o.upto ≤ o2.upto → o2.turns ≤ o.turns →
       Grown h.scope.names h2.scope.names → program_of h2 ≡ program_of h → n ≡ length h.scope.names → o.upto ≤ n →
       ((p : ℕ) → params ≤ p → p < o.upto →
       (get_or i.frame.slots (counter (where_of params h) p) blank
@@ -328,7 +338,7 @@ module _ (x : Setting) (params slots : ℕ) (fit : SlotsFit x slots) where
       ≡ get_or o.slots (beside (where_of params h) p) blank)) →
       RegionsStay o.upto o.names o2.names → Agrees x params slots o2 h2 s2 j →
       Agrees x params slots o h (record s2 { names = take n s2.names }) j
-  leaves_round o o2 h h2 n s s2 i j e up fewer grown tree en low kept_number steady g =
+  leaves_round o o2 h h2 n s s2 i j least e up fewer grown tree en low kept_number steady g =
       let w = where_of params h in
       let many : length h2.scope.names ≡ length grown.more + length h.scope.names =
       ap length grown.are ∙ length-append grown.more h.scope.names in
@@ -348,8 +358,11 @@ module _ (x : Setting) (params slots : ℕ) (fit : SlotsFit x slots) where
             (subst (λ bs. AreOf (IsInside x s2.store) bs s2.names) grown.are g.inside_store));
         pointed = pointed_cut h.scope.names s2.names n (omega (arith, en))
             (typed_fewer IsOf grown.more h.scope.names s2.names (subst (λ bs. AreOf IsOf bs s2.names) grown.are g.typed))
-            (pointed_fewer grown.more h.scope.names s2.names (subst (λ bs. ArePointed bs s2.names) grown.are g.pointed));
+            (pointed_fewer grown.more h.scope.names s2.names least (subst (ArePointed params s2.names) grown.are g.pointed));
         steady = λ p q l e. get_or-take n s2.names p nothing (omega (arith, l, low)) ∙ g.steady p q (omega (arith, l, up)) (steady p q l e);
+        under = under_cut x.forms.takes h.scope.names s2.names n (omega (arith, en))
+            (typed_fewer IsOf grown.more h.scope.names s2.names (subst (λ bs. AreOf IsOf bs s2.names) grown.are g.typed))
+            (under_fewer x.forms.takes grown.more h.scope.names s2.names (subst (λ bs. AreUnder x.forms.takes bs s2.names) grown.are g.under));
         besides = beside_cut (λ p. get_or j.frame.slots (beside w p) blank) j.contents params (length s2.store) h.scope.names s2.names n (omega (arith, en))
             (typed_fewer IsOf grown.more h.scope.names s2.names (subst (λ bs. AreOf IsOf bs s2.names) grown.are g.typed))
             (beside_fewer (λ p. get_or j.frame.slots (beside w p) blank) j.contents params (length s2.store) grown.more h.scope.names s2.names

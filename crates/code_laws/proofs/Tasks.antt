@@ -21,7 +21,7 @@ use Rattle.regent_tree.specs.Syntax.{Name, TaskTree, Tree}
 use Rattle.regent_tree.specs.Typing.{param_types, result_type, scope_after_block}
 use Rattle.regent_tree.specs.Values.{Region, Value, a_truth, kept_number, region_of}
 use Rattle.regent_tree.specs.declared.facts.Term.{Term}
-use Rattle.regent_tree.specs.declared.facts.Term.TheVariants.{Name as Name_term}
+use Rattle.regent_tree.specs.declared.facts.Term.TheVariants.{Child as Child_term, Name as Name_term}
 use Rattle.regent_tree.specs.declared.types.NumberTerm.TheVariants as number
 use Rattle.regent_tree.specs.declared.types.Param.{Param}
 use Rattle.regent_tree.specs.declared.types.TypeTerm.{TypeTerm}
@@ -46,12 +46,14 @@ use Rattle.code_rules.specs.Statements.{block_code}
 use Rattle.memory_laws.specs.Memory.{Holds, memory_of}
 use Rattle.memory_laws.specs.Places.{numbers}
 use Rattle.memory_laws.proofs.Given.{given_keeps_numbers, given_stands}
-use Rattle.code_laws.specs.Handing.{AreTypedBy, forms_by, takes_by}
+use Rattle.code_laws.specs.Handing.{AreTypedBy, forms_by, takes_by, taking_of}
+use Rattle.code_laws.specs.Pointers.{given_pointed}
 use Rattle.code_laws.specs.Programs.{IsGiven, called_setting, gives_nothing, gives_scalar}
-use Rattle.code_laws.specs.Simple.{IsScalar, scalar_integer, scalar_truth}
-use Rattle.code_laws.specs.Standing.{Answering, AreTaken, Does, IsFramed, IsInside, IsOf, IsTaken, LiesIn, Matches, Returns, Stands, Takes, back, both_back, both_broke, called_with, of_integer, of_partition, of_pointer, of_region, of_truth, takes_partition, takes_pointer, takes_region, takes_value}
+use Rattle.code_laws.specs.Simple.{IsRegion, IsScalar, a_region_type, scalar_integer, scalar_truth, term_in}
+use Rattle.code_laws.specs.Standing.{Answering, AreTaken, AreUnder, Does, IsFramed, IsInside, IsOf, IsTaken, LiesIn, Matches, Returns, Stands, Takes, back, both_back, both_broke, called_with, of_integer, of_partition, of_pointer, of_region, of_truth, takes_partition, takes_pointer, takes_region, takes_value}
 use Rattle.code_laws.specs.Steps.{Ends, Setting, Taking, placed}
-use Rattle.code_laws.specs.Taking.{AreParts, IsGivenAs, IsHadBy, needs_taken, pairs_in, pairs_taken}
+use Rattle.code_laws.specs.Taking.{AreParts, IsGivenAs, IsHadBy, IsSubregion, given_region, needs_taken, pairs_in, pairs_taken, up_itself}
+use Rattle.code_laws.proofs.Under.{sub_itself}
 use Rattle.code_laws.proofs.Calling.{code_there, room_for}
 use Rattle.code_laws.proofs.Counts.{counts_down}
 use Rattle.code_laws.proofs.Entering.{Enters, entered_pointed, params_placed_by, taken_enters}
@@ -62,7 +64,7 @@ use Rattle.code_laws.proofs.Runs.{ends_by, leads_end}
 use Rattle.code_laws.proofs.Segments.{segments_give}
 use Rattle.code_laws.proofs.Statements.{block_runs}
 use Rattle.code_laws.proofs.Values.{simple_inside}
-use Rattle.code_laws.proofs.Besides.{back_beside}
+use Rattle.code_laws.proofs.Besides.{params_beside}
 
 -- ---- arguments and results
 
@@ -107,6 +109,36 @@ params_own tree all i (p ∷ ps) =
     subst (AreOwnTerms i) (sym (types_last (bound_params tree all (suc i) ps) _))
     (said_own tree (among_params all) i p.term, params_own tree all (suc i) ps)
 
+-- the regions of parameters began as no parts
+abbrev AreLow : ℕ → List Bound → Type 0
+AreLow n [] = Unit {0}
+AreLow n (b ∷ bs) = ((k : ℕ) → IsRegion b.static_type → term_in b.static_type ≡ Name_term k → k < n) × AreLow n bs
+
+low_last : (n : ℕ) (bs : List Bound) (b : Bound) → AreLow n bs → ((k : ℕ) → IsRegion b.static_type → term_in b.static_type ≡ Name_term k → k < n) → AreLow n (bs ++ b ∷ [])
+low_last n [] b a c = (c, tt)
+low_last n (d ∷ bs) b a c = (a.0, low_last n bs b a.1 c)
+
+abbrev number_of_term : Term → ℕ
+number_of_term (Name_term i) = i
+number_of_term (Child_term p c) = 0
+
+own_low : (i n : ℕ) (t : StaticType) → i < n → IsOwnTerm i t → (k : ℕ) → IsRegion t → term_in t ≡ Name_term k → k < n
+own_low i n _ low own k (a_region_type _ _ _ r) e = let same : i ≡ k = ap number_of_term (sym own ∙ e) in omega (arith, low, same)
+
+params_low : (tree : Tree) (all : List Param) (i n : ℕ) (ps : List Param) → i + length ps ≤ n → AreLow n (bound_params tree all i ps)
+params_low tree all i n [] l = tt
+params_low tree all i n (p ∷ ps) l =
+    low_last n (bound_params tree all (suc i) ps) _ (params_low tree all (suc i) n ps (omega (arith, l)))
+    (own_low i n (type_said tree (among_params all) i p.term) (omega (arith, l)) (said_own tree (among_params all) i p.term))
+
+low_under : (handing : Bool) (tree : Tree) (t : TaskTree) (bs : List Bound) (names : List Value) → AreLow (length t.params) bs → AreUnder (takes_by handing tree t) bs names
+low_under handing tree t [] names a = tt
+low_under false tree t (b ∷ bs) names a = (tt, low_under false tree t bs names a.1)
+low_under true tree t (b ∷ bs) names a = (
+  λ i r q region named behind above is. let low = a.0 i region named in absurd (omega (arith, low, behind)),
+  low_under true tree t bs names a.1,
+)
+
 -- what is taken lies in the store, and is the parameter's
 taken_inside : (x : Setting) (all : List Value) (takes : Option Taking) (code : Code) (store : Store) (i n : ℕ) (ts : List StaticType) (vs : List Value) →
     x.code ≡ code → x.args ≡ all → ((y : Taking) → takes ≡ Some y → (z : Taking) × (x.forms.takes ≡ Some z) × (z.params ≡ n)) →
@@ -119,22 +151,26 @@ taken_inside x all takes code store i n (t ∷ ts) (v ∷ vs) ec ea has long at 
       (λ k. ap (λ j. get_or all j (a_truth false)) (omega arith) ∙ at (suc k)) own.1 a.1,
 )
   where
-    had : (o : Option Taking) (z : Taking) (r : Term) (q : Region) → o ≡ Some z → IsGivenAs x.args z.params r q → IsHadBy o x r q
+    had : (o : Option Taking) (z : Taking) (r : Term) (q : Region) → o ≡ Some z → IsGivenAs x.args z r q → IsHadBy o x r q
     had None z r q e g = absurd (none-some z e)
-    had (Some y) z r q e g = inr (subst (λ (y : Taking). IsGivenAs x.args y.params r q) (sym (same_Some y z e)) g)
+    had (Some y) z r q e g = inr (subst (λ (y : Taking). IsGivenAs x.args y r q) (sym (same_Some y z e)) g)
 
     one : (t : StaticType) (v : Value) → IsOwnTerm i t → get_or all i (a_truth false) ≡ v → IsTaken takes code store t v → IsInside x store t v
     one _ _ own here (takes_value t v s o) = simple_inside x store t v s
     one _ _ own here (takes_pointer k sp args rs tg qs o) = tt
     one _ _ own here (takes_partition y d r p q e l) = l
     one _ _ own here (takes_region y k sp args r q e l) =
-        let z = has y e in (
+        let z = has y e in
+        let same : given_region x.args i ≡ q = ap (λ vs. region_of (get_or vs i (a_truth false))) ea ∙ ap region_of here in (
           subst (λ c. LiesIn c store sp q) (sym ec) l,
           had x.forms.takes z.0 r q z.1 (record {
-            place = i;
+            number = i;
             named = own;
+            place = i;
+            up = up_itself i;
             below = omega (arith, long, z.2);
-            is = ap (λ vs. region_of (get_or vs i (a_truth false))) ea ∙ ap region_of here;
+            within = subst (IsSubregion q) (sym same) (sub_itself q);
+            is = λ low. same;
           }),
         )
 taken_inside x all takes code store i n [] (v ∷ vs) ec ea has long at own a = absurd a
@@ -156,7 +192,7 @@ zero_given sc _ gives_nothing = refl
 all_take : (handing : Bool) (tree : Tree) (t u : TaskTree) (y : Taking) → takes_by handing tree t ≡ Some y →
     (z : Taking) × (takes_by handing tree u ≡ Some z) × (z.params ≡ length u.params)
 all_take false tree t u y e = absurd (none-some y e)
-all_take true tree t u y e = (record { params = length u.params; needs = (task_code tree u).needs; within = pairs_in (scope_of tree u).known }, refl, refl)
+all_take true tree t u y e = (taking_of tree u, refl, refl)
 
 -- it needs what it declares
 needs_are : (handing : Bool) (tree : Tree) (t : TaskTree) (n : NeedCode) → Contains (needs_taken (takes_by handing tree t)) n →
@@ -169,7 +205,7 @@ parts_are : (handing : Bool) (tree : Tree) (u t : TaskTree) (vs : List Value) �
     ((y : Taking) → takes_by handing tree u ≡ Some y → AreParts vs (pairs_in (scope_of tree t).known)) →
     AreParts vs (pairs_taken (takes_by handing tree t))
 parts_are false tree u t vs h = λ p there. absurd (Has-from_Contains [] p there)
-parts_are true tree u t vs h = h (record { params = length u.params; needs = (task_code tree u).needs; within = pairs_in (scope_of tree u).known }) refl
+parts_are true tree u t vs h = h (taking_of tree u) refl
 
 module _ (handing keeping : Bool) (tree : Tree) (turns : ℕ) (few : turns < 2 ^ 64) (are : AreTypedBy handing keeping tree) where
   -- a task's end, by the meaning and by the run
@@ -249,9 +285,10 @@ module _ (handing keeping : Bool) (tree : Tree) (turns : ℕ) (few : turns < 2 ^
       (taken_typed takes (code_of tree) store ts vs takes_it.taken)
       (taken_inside x vs takes (code_of tree) store 0 (length t.params) ts vs refl refl
       (λ y e. all_take handing tree u t y (sym from ∙ e)) (omega (arith, room.0)) (λ k. ap (λ j. get_or vs j (a_truth false)) (omega arith)) (params_own tree t.params 0 t.params) takes_it.taken)
-      (entered_pointed sc ts vs many sc.names placed (omega arith) (λ i low. refl) (names_typed IsOf sc.names vs from_first (taken_typed takes (code_of tree) store ts vs takes_it.taken))
-      (names_typed (Enters sc vs) sc.names (entered sc vs ts vs) from_first (taken_enters sc vs takes (code_of tree) store ts vs takes_it.taken takes_it.divided)) takes_it.back)
-      (λ at. back_beside at c (length t.params) (length store) sc.names sc.names (entered sc vs ts vs) takes_it.back) room.1 holds
+      (given_pointed sc.names (params_length tree t.params 0 t.params) (entered_pointed sc ts vs many placed (names_typed IsOf sc.names vs from_first (taken_typed takes (code_of tree) store ts vs takes_it.taken)) sc.names
+      (names_typed (Enters sc vs) sc.names (entered sc vs ts vs) from_first (taken_enters sc vs takes (code_of tree) store ts vs takes_it.taken takes_it.divided)) takes_it.goals))
+      (low_under handing tree t sc.names (entered sc vs ts vs) (params_low tree t.params 0 (length t.params) t.params (omega arith)))
+      (λ at. params_beside at c (length t.params) (length store) sc.names sc.names (entered sc vs ts vs) takes_it.goals) room.1 holds
       (λ n h. asked_covered (code_of tree) c vs code.needs store (memory_of i) refl takes_it.required n (needs_are handing tree t n h))
       (parts_are handing tree u t vs (λ y e. takes_it.parts y (from ∙ e))) takes_it.kept in
       let low : length t.params ≤ length h.scope.names = omega (arith, params_length tree t.params 0 t.params) in

@@ -41,6 +41,7 @@ use Rattle.regent_tree.specs.Store.{Touch}
 use Rattle.code_laws.specs.Handing.{AreTypedBy, HandingProgramsEndWell, RegionsAreHandedAsMeant, forms_by}
 use Rattle.code_laws.specs.LocalPrograms.{IsEnded}
 use Rattle.code_laws.specs.Taking.{allows, given_region, is_asked}
+use Rattle.code_laws.specs.Pointers.{given_pointed}
 use Rattle.code_laws.specs.Programs.{AreTypedTasks, PointerCallsRunAsMeant, CallsRunAsMeant, call_forms, IsTypedRun, LeavesNoRoots, PointersRunAsMeant, RegionsRunAsMeant, RunsAsMeant, ScalarsRunAsMeant, entry_setting, job_of, pointer_forms, region_forms, scalar_forms}
 use Rattle.code_laws.specs.Standing.{Answering, AreTaken, Does, IsFramed, IsInside, IsOf, Stands, machine_value}
 use Rattle.code_laws.specs.Steps.{Ends, Forms, Setting, placed}
@@ -49,7 +50,8 @@ use Rattle.code_laws.proofs.Openings.{before_all, begins, fits_slots, least_slot
 use Rattle.code_laws.proofs.Shapes.{all_shaped}
 use Rattle.run_report.specs.Dumps.{fits_spaces}
 use Rattle.code_laws.proofs.Places.{stands_alone}
-use Rattle.code_laws.proofs.Pointing.{IsPlain, all_plain}
+use Rattle.code_laws.proofs.Pointing.{IsNoRegion, IsPlain, all_plain}
+use Rattle.code_laws.proofs.Under.{none_under}
 use Rattle.code_laws.proofs.Entering.{plain_entered}
 use Rattle.code_laws.proofs.Runs.{ends_by, leads_end}
 use Rattle.code_laws.proofs.Segments.{segments_give}
@@ -79,6 +81,14 @@ inputs_plain s all [] (z ∷ zs) a = tt
 inputs_plain s all (t ∷ ts) [] a = absurd a
 inputs_plain s all (t ∷ ts) (z ∷ zs) a =
     (subst IsPlain (sym (plain_entered s all t (a_number (width_of_type t) z) tt)) tt, inputs_plain s all ts zs a.1)
+
+inputs_no_region : (s : Scope) (all : List Value) (ts : List StaticType) (zs : List ℤ) → AreTaken IsOf ts (inputs_of ts zs) →
+    AreTaken (λ u v. IsNoRegion v) ts (entered s all ts (inputs_of ts zs))
+inputs_no_region s all [] [] a = tt
+inputs_no_region s all [] (z ∷ zs) a = tt
+inputs_no_region s all (t ∷ ts) [] a = absurd a
+inputs_no_region s all (t ∷ ts) (z ∷ zs) a =
+    (subst IsNoRegion (sym (plain_entered s all t (a_number (width_of_type t) z) tt)) (λ q e. absurd cc), inputs_no_region s all ts zs a.1)
 
 -- at the end of the first task what its roots hold is the store
 roots_are : (x : Setting) (s : State) (j : Instance) → x.before ≡ [] → Holds x.code s.store (memory_of j) →
@@ -164,7 +174,8 @@ typed_run_ends forms tree inputs turns answers p =
     let room : length t.params ≤ code.slots = least_slots (length t.params) code.body in
     let few : length vs ≤ code.slots = omega (arith, taken_length IsOf ts vs p.taken, params, room) in
     let g = opens tree turns 63 1 t place vs [] no_contents [] [] forms (calls_at tree turns 63) answers p.taken (inputs_inside x [] ts inputs p.taken)
-    (all_plain sc.names (entered sc vs ts vs) (names_typed (λ u v. IsPlain v) sc.names (entered sc vs ts vs) (params_from tree t.params 0 t.params) (inputs_plain sc vs ts inputs p.taken)))
+    (given_pointed sc.names (params_length tree t.params 0 t.params) (all_plain sc.names sc.names (entered sc vs ts vs) (names_typed (λ u v. IsPlain v) sc.names (entered sc vs ts vs) (params_from tree t.params 0 t.params) (inputs_plain sc vs ts inputs p.taken))))
+    (none_under forms.takes sc.names (entered sc vs ts vs) (names_typed (λ u v. IsNoRegion v) sc.names (entered sc vs ts vs) (params_from tree t.params 0 t.params) (inputs_no_region sc vs ts inputs p.taken)))
     (λ at. plain_beside at no_contents (length t.params) 0 sc.names (entered sc vs ts vs)
     (names_typed (λ u v. IsPlain v) sc.names (entered sc vs ts vs) (params_from tree t.params 0 t.params) (inputs_plain sc vs ts inputs p.taken))) few
     (first_holds (code_of tree) i.frame) (λ n h u asked. absurd (nothing_asked n u asked))

@@ -37,7 +37,7 @@ use Rattle.code_rules.specs.Slots.{slot, slot_named, spare, beside}
 use Rattle.code_rules.specs.Initializers.{new_place, zero_kept}
 use Rattle.code_rules.specs.Assignments.{fill_code}
 use Rattle.code_laws.specs.Steps.{Setting, placed}
-use Rattle.code_laws.specs.Standing.{Stands, machine_value, Comes, IsInside, IsOf, nothing, of_index, of_integer, of_region, of_space, of_truth, blank, Aside, where_of, Agrees, SlotsFit, Does, GoesToPart}
+use Rattle.code_laws.specs.Standing.{Stands, machine_value, Comes, IsInside, IsOf, IsUnder, nothing, of_index, of_integer, of_region, of_space, of_truth, blank, Aside, where_of, Agrees, SlotsFit, Does, GoesToPart}
 use Rattle.code_laws.specs.Simple.{IsRegion, IsSpace, a_region_type, a_space_type, scalar_integer, scalar_truth}
 use Rattle.code_laws.specs.Pointers.{HasZero, IsPointed, zero_index, zero_scalar}
 use Rattle.code_laws.specs.Taking.{IsFresh}
@@ -63,11 +63,12 @@ module _ (x : Setting) (params slots : ℕ) (fit : SlotsFit x slots) (counts : C
   pub binds : (aside : Aside) (h : Here) (n : Name) (t : Option TypeTerm) (start : Option Initializer) (v : Value) (s : State)
       (pc : ℕ) (i : Instance) → params ≤ length h.scope.names → IsOf (var_type h.tree h.scope t start) v →
       IsInside x s.store (var_type h.tree h.scope t start) v → IsPointed h.scope.names s.names (var_type h.tree h.scope t start) v →
+      IsUnder x.forms.takes h.scope.names s.names (var_type h.tree h.scope t start) v →
       ((q : Region) → GoesToPart (var_type h.tree h.scope t start) v q → (get_or i.frame.slots (beside (where_of params h) (length h.scope.names)) blank
       ≡ machine_value i.contents (a_region q)) × (q.root < length s.store)) →
       Agrees x params slots aside h s i → Stands x.body pc (op (instr.Store (slot (where_of params h) (new_place (where_of params h)))) h.line) →
       Does x params slots aside (valued pc [] v i) (suc pc) (after_statement h (var_form n t start)) (bind v s)
-  binds aside h n t start v s pc i low ty inside pointed part g f =
+  binds aside h n t start v s pc i low ty inside pointed under part g f =
       let w = where_of params h in
       let k = slot w (new_place w) in
       let u = var_type h.tree h.scope t start in
@@ -75,7 +76,7 @@ module _ (x : Setting) (params slots : ℕ) (fit : SlotsFit x slots) (counts : C
         stored k (machine_value i.contents v) i,
         stores x params slots fit k pc h.line (machine_value i.contents v) [] i g.slots_are f,
         same_scope x params slots aside (record h { scope = with_name h.scope n u false }) _ _ _ (refl, refl)
-            (bound_more x params slots fit aside h s i n u false v low room ty inside pointed part g),
+            (bound_more x params slots fit aside h s i n u false v low room ty inside pointed under part g),
       )
 
   -- 0 or false

@@ -66,17 +66,17 @@ pub keepable : (b : Bool) (w : Where) (e : Expression) → IsKeepable b w e → 
 keepable false w e p = inl p
 keepable true w e p = p
 
-pub begun : (b : Bool) (w : Where) (e : Expression) (B : Type 0) → IsBegun b w e B → B ⊎ IsDifference w e
-begun false w e B p = inl p
-begun true w e B p = p
+pub begun : (b : Bool) (w : Where) (e : Expression) (B Part : Type 0) → IsBegun b w e B Part → B ⊎ (IsDifference w e ⊎ Part)
+begun false w e B Part p = inl p
+begun true w e B Part p = p
 
-pub begun_so : (b : Bool) (w : Where) (e : Expression) (B : Type 0) → B → IsBegun b w e B
-begun_so false w e B p = p
-begun_so true w e B p = inl p
+pub begun_so : (b : Bool) (w : Where) (e : Expression) (B Part : Type 0) → B → IsBegun b w e B Part
+begun_so false w e B Part p = p
+begun_so true w e B Part p = inl p
 
-pub begun_apart : (b : Bool) (w : Where) (e : Expression) (B : Type 0) → b ≡ true → IsDifference w e → IsBegun b w e B
-begun_apart false w e B q d = absurd (not_true q)
-begun_apart true w e B q d = inr d
+pub begun_apart : (b : Bool) (w : Where) (e : Expression) (B Part : Type 0) → b ≡ true → IsDifference w e ⊎ Part → IsBegun b w e B Part
+begun_apart false w e B Part q d = absurd (not_true q)
+begun_apart true w e B Part q d = inr d
 
 pub loops_over : (b : Bool) (w : Where) (e : Expression) → LoopsOver b w e → IsSpace (typed w e) ⊎ IsNamedRegion w e
 loops_over false w e p = inl p

@@ -1,6 +1,6 @@
 -- What stands as an argument of a call where regions are handed over: a name that has a region, or a part of a partition
 -- that has a name. What the called task needs of it may be done with it, and its constraints hold of it.
-use Rattle.std.specs.Prelude.{◌≡◌, ◌⊎◌, Bool, ℕ, zero, suc, Option, ◌<◌, ℤ, length, List, [], ◌∷◌, true, false, Some, None}
+use Rattle.std.specs.Prelude.{◌≡◌, ◌⊎◌, Bool, ℕ, zero, suc, Option, ◌<◌, ◌≤◌, ℤ, length, List, [], ◌∷◌, true, false, Some, None}
 use Rattle.check_laws.specs.SoundScopes.{Falls}
 use Rattle.lane_kernels.specs.declared.numbers.Width.{Width}
 use Rattle.regent_tree.specs.Accesses.{space_in}
@@ -18,7 +18,7 @@ use Rattle.task_code.specs.declared.code.NeedCode.{NeedCode}
 use Rattle.code_rules.specs.Slots.{Where, bound, typed}
 use Rattle.code_laws.specs.Simple.{AreRegions, IsPartition, IsRegion, term_in}
 use Rattle.code_laws.specs.Steps.{Taking}
-use Rattle.code_laws.specs.Taking.{MayDo, is_part}
+use Rattle.code_laws.specs.Taking.{LiesUp, MayDo, is_part}
 
 -- ---- partitions and their parents
 
@@ -132,14 +132,33 @@ abbrev pub IsGivenPart : Option Taking → Term → Term → Type 0
 IsGivenPart None r u = ⊥
 IsGivenPart (Some y) r u = IsPart y r u
 
+-- A region began as a part of one with a number, which lies within another; that is what a binding has, or a parameter's
+-- that lies within it.
+pub record BeganWithin (y : Taking) (w : Where) (r : Term) (b : Bound) : Type 0 where
+  pub numbers : Falls w.scope.next w.scope.names
+  pub number : ℕ
+  pub named : r ≡ term.Name number
+  pub behind : y.params ≤ number
+  pub whole : ℕ
+  pub began : y.above number ≡ Some whole
+  pub upper : ℕ
+  pub up : LiesUp y whole upper
+  pub ends : ((bound_as w.scope.names upper).place ≡ b.place) ⊎ IsPart y (term.Name upper) (term_in b.static_type)
+
+abbrev pub HasBegunWithin : Option Taking → Where → Term → Bound → Type 0
+HasBegunWithin None w r b = ⊥
+HasBegunWithin (Some y) w r b = BeganWithin y w r b
+
 -- so does what a binding has, which may be the same
-abbrev pub LiesBelow : Option Taking → Bound → Bound → Type 0
-LiesBelow takes a b = (a.place ≡ b.place) ⊎ IsGivenPart takes (term_in a.static_type) (term_in b.static_type)
+abbrev pub LiesBelow : Option Taking → Where → Bound → Bound → Type 0
+LiesBelow takes w a b = (a.place ≡ b.place)
+    ⊎ (IsGivenPart takes (term_in a.static_type) (term_in b.static_type) ⊎ HasBegunWithin takes w (term_in a.static_type) b)
 
 abbrev pub IsParted : Taking → Where → Option Name → Option Name → Type 0
 IsParted y w (Some m) (Some n) = (is_bound w.scope.names m ≡ true) × (is_bound w.scope.names n ≡ true)
     × IsRegion (bound w m).static_type × IsRegion (bound w n).static_type
-    × ((m ≡ n) ⊎ IsPart y (term_in (bound w m).static_type) (term_in (bound w n).static_type))
+    × ((m ≡ n) ⊎ (IsPart y (term_in (bound w m).static_type) (term_in (bound w n).static_type)
+    ⊎ BeganWithin y w (term_in (bound w m).static_type) (bound w n)))
 IsParted y w _ _ = ⊥
 
 -- two expressions that stand for one colour: a number, or a name
@@ -151,7 +170,7 @@ pub data AreOneColour : Expression → Expression → Type 0 where
 -- part of the same colour.
 abbrev pub IsPartBelow : Taking → Where → Option (Name × Expression) → Option Name → Option (Name × Expression) → Type 0
 IsPartBelow y w (Some p) (Some n) o = IsCutName w p.0 × IsParent w n
-    × (((parent_bound w p.0).place ≡ (bound w n).place) ⊎ IsPart y (term_in (parent_bound w p.0).static_type) (term_in (bound w n).static_type))
+    × LiesBelow (Some y) w (parent_bound w p.0) (bound w n)
 IsPartBelow y w (Some p) None (Some q) = IsCutName w p.0 × (p.0 ≡ q.0) × AreOneColour p.1 q.1
 IsPartBelow y w _ _ _ = ⊥
 

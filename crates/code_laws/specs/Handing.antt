@@ -3,20 +3,35 @@ use Rattle.std.specs.Prelude.{◌≡◌, Bool, true, false, ℕ, ◌^◌, ◌<�
 use Rattle.regent_tree.specs.Scopes.{scope_of}
 use Rattle.regent_tree.specs.StaticTypes.{entry_name, task_named}
 use Rattle.regent_tree.specs.Syntax.{TaskTree, Tree}
-use Rattle.regent_tree.specs.Typing.{result_type}
+use Rattle.regent_tree.specs.Typing.{result_type, scope_after_block}
+use Rattle.regent_tree.specs.declared.facts.Known.{Known}
 use Rattle.code_rules.specs.Instructions.{tasks_of}
 use Rattle.code_rules.specs.Pieces.{lines}
 use Rattle.code_rules.specs.Programs.{body_piece, place_of, task_code}
 use Rattle.code_laws.specs.LocalPrograms.{EndsWell}
 use Rattle.code_laws.specs.Programs.{IsGiven, IsTypedRun, RunsAsMeant}
 use Rattle.code_laws.specs.Steps.{Forms, Taking}
+use Rattle.code_laws.specs.Above.{above_in}
 use Rattle.code_laws.specs.Taking.{pairs_in}
 use Rattle.code_laws.specs.Typed.{IsTypedBlock}
+
+-- what is told of regions by the end of a task's body
+abbrev pub told_in : Tree → TaskTree → List Known
+told_in tree t = (scope_after_block tree (scope_of tree t) t.body).known
+
+-- what a task takes, by what it declares and tells
+abbrev pub taking_of : Tree → TaskTree → Taking
+taking_of tree t = record {
+  params = length t.params;
+  needs = (task_code tree t).needs;
+  within = pairs_in (scope_of tree t).known;
+  above = above_in (told_in tree t);
+}
 
 -- whether regions are handed over; a task may do with those that it takes what it declares, by its constraints
 abbrev pub takes_by : Bool → Tree → TaskTree → Option Taking
 takes_by false tree t = None
-takes_by true tree t = Some (record { params = length t.params; needs = (task_code tree t).needs; within = pairs_in (scope_of tree t).known })
+takes_by true tree t = Some (taking_of tree t)
 
 -- also whether pointers are kept
 abbrev pub forms_by : Bool → Bool → Tree → TaskTree → Forms

@@ -1,9 +1,11 @@
 pub mod Steps
 pub mod Simple
+pub mod Above
 pub mod Taking
 pub mod Pointers
 pub mod Standing
 pub mod Arguments
+pub mod Counting
 pub mod Typed
 pub mod Programs
 pub mod Handing

@@ -6,13 +6,14 @@ use Rattle.regent_tree.specs.declared.expression.Comparison.{Comparison}
 use Rattle.regent_tree.specs.declared.expression.Comparison.TheVariants.{Equal, NotEqual}
 use Rattle.regent_tree.specs.declared.expression.Sign.{Sign}
 use Rattle.regent_tree.specs.declared.expression.Sign.TheVariants.{Minus, Not}
+use Rattle.regent_tree.specs.declared.facts.Term.{Term}
 use Rattle.regent_tree.specs.declared.facts.Term.TheVariants as term
 use Rattle.regent_tree.specs.declared.types.Kind.{Kind}
 use Rattle.regent_tree.specs.declared.types.NumberTerm.{NumberTerm}
 use Rattle.regent_tree.specs.declared.types.NumberTerm.TheVariants as number
 use Rattle.regent_tree.specs.declared.typing.Bound.{Bound}
 use Rattle.regent_tree.specs.declared.typing.StaticType.{StaticType}
-use Rattle.regent_tree.specs.declared.typing.StaticType.TheVariants.{Index as index_type, Ispace as ispace_type, Partition as partition_type, Pointer as pointer_type}
+use Rattle.regent_tree.specs.declared.typing.StaticType.TheVariants.{Index as index_type, Ispace as ispace_type, Partition as partition_type, Pointer as pointer_type, Region as region_type}
 use Rattle.partitions.specs.Laws.{ArePartsOf, NoneShared}
 use Rattle.plain_values.specs.Points.{has}
 use Rattle.regent_tree.specs.Accesses.{space_in}
@@ -88,6 +89,12 @@ pub data HasSigns : StaticType → List Sign → Type 0 where
   signs_plain : (t : StaticType) (ss : List Sign) → SignsFit t ss → HasSigns t ss
   signs_counted : (t : StaticType) (ss : List Sign) → IsCounting t → AllMinus ss → HasSigns t (Minus ∷ ss)
 
+-- a partition's type like another, of the same region and disjoint only where the other one is; or a region's, of the same
+-- field space and term
+pub data IsLike : StaticType → StaticType → Type 0 where
+  like_partition : (d e : Bool) (r p : ℕ) → (d ≡ true → e ≡ true) → IsLike (partition_type d r p) (partition_type e r p)
+  like_region : (j k : Kind) (sp : ℕ) (args brgs : List Reach) (r : Term) → IsLike (region_type j sp args r) (region_type k sp brgs r)
+
 -- ---- types that are written
 
 -- the regions of a list are bound in scope, and of a field space, but those that may be any
@@ -98,26 +105,19 @@ AreThere bs sp (Some (term.Name i) ∷ rs) = ((bound_as bs i).number ≡ i) × I
 AreThere bs sp (Some (term.Child p c) ∷ rs) = ⊥
 AreThere bs sp (None ∷ rs) = AreThere bs sp rs
 
--- regions whose names have numbers below another
-abbrev pub AreBefore : ℕ → List Reach → Type 0
-AreBefore own [] = Unit {0}
-AreBefore own (Some (term.Name i) ∷ rs) = (i < own) × AreBefore own rs
-AreBefore own (Some (term.Child p c) ∷ rs) = AreBefore own rs
-AreBefore own (None ∷ rs) = AreBefore own rs
+-- Parameters' pointers go into parameters that are regions of their field space, wherever these stand; so is the parent of one
+-- that is a partition.
+abbrev pub GoesToParams : List Bound → StaticType → Type 0
+GoesToParams all (pointer_type k sp args rs) = AreThere all sp rs
+GoesToParams all (partition_type d r p) = ((bound_as all r).number ≡ r) × IsRegion (bound_as all r).static_type
+GoesToParams all t = Unit {0}
 
--- Parameters' pointers go into parameters that are regions of their field space, and stand before them; so does the parent of
--- one that is a partition.
-abbrev pub GoesBack : List Bound → ℕ → StaticType → Type 0
-GoesBack all own (pointer_type k sp args rs) = AreThere all sp rs × AreBefore own rs
-GoesBack all own (partition_type d r p) = (r < own) × ((bound_as all r).number ≡ r) × IsRegion (bound_as all r).static_type
-GoesBack all own t = Unit {0}
+abbrev pub GoToParams : List Bound → List Bound → Type 0
+GoToParams all [] = Unit {0}
+GoToParams all (b ∷ bs) = GoesToParams all b.static_type × GoToParams all bs
 
-abbrev pub GoBack : List Bound → List Bound → Type 0
-GoBack all [] = Unit {0}
-GoBack all (b ∷ bs) = GoesBack all b.number b.static_type × GoBack all bs
-
-abbrev pub AllGoBack : List Bound → Type 0
-AllGoBack all = GoBack all all
+abbrev pub AllGoToParams : List Bound → Type 0
+AllGoToParams all = GoToParams all all
 
 -- a pointer's type that is written in a scope
 abbrev pub IsWritten : List Bound → StaticType → Type 0
@@ -144,9 +144,10 @@ pub data Passes : StaticType → StaticType → StaticType → Type 0 where
   passes_pointer : (t : StaticType) (k : Kind) (sp : ℕ) (args brgs rs qs : List Reach) → IsPointer t → length qs ≡ length rs →
       Passes t (pointer_type k sp brgs qs) (pointer_type k sp args rs)
 
--- with what fields of a type are filled, also where they are of pointers
+-- with what fields of a type are filled, also where they are of pointers, or of indices, which take a pointer's point
 pub data Filled : StaticType → StaticType → Type 0 where
   filled_plain : (t u : StaticType) → Fills t u → Filled t u
+  filled_index : (k : Kind) (sp : ℕ) (args rs : List Reach) (j : Kind) → Filled (pointer_type k sp args rs) (index_type j)
   filled_pointer : (t u : StaticType) → IsPointer t → IsPointer u → Filled t u
 
 -- two values that are compared: pointers with each other, or with numbers by their points
@@ -254,7 +255,13 @@ IsPointed bs names t (a_pointer target qs) = AreReached bs names (space_in t) (r
 IsPointed bs names t (a_partition q) = IsCut bs names (parent_of t) q
 IsPointed bs names t _ = Unit {0}
 
--- so of each name's value, among the names that were bound before it
-abbrev pub ArePointed : List Bound → List Value → Type 0
-ArePointed [] names = Unit {0}
-ArePointed (b ∷ bs) names = IsPointed bs names b.static_type (get_or names b.place (a_truth false)) × ArePointed bs names
+-- so of the values of some names, among all of these
+abbrev pub ArePointedIn : List Bound → List Bound → List Value → Type 0
+ArePointedIn all [] names = Unit {0}
+ArePointedIn all (b ∷ bs) names = IsPointed all names b.static_type (get_or names b.place (a_truth false)) × ArePointedIn all bs names
+
+-- so of each name's value: a parameter's among all parameters, and any other's among the names that were bound before it
+pub data ArePointed (params : ℕ) : List Value → List Bound → Type 0 where
+  given_pointed : {names : List Value} (bs : List Bound) → length bs ≡ params → ArePointedIn bs bs names → ArePointed params names bs
+  more_pointed : {names : List Value} (b : Bound) (bs : List Bound) → IsPointed bs names b.static_type (get_or names b.place (a_truth false)) →
+      ArePointed params names bs → ArePointed params names (b ∷ bs)

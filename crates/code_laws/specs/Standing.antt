@@ -1,5 +1,5 @@
 -- Where code stands, and how an instance agrees with a state of the meaning.
-use Rattle.std.specs.Prelude.{◌≡◌, ℕ, suc, ◌+◌, ◌^◌, ◌<◌, ◌≤◌, ℤ, pos, false, true, List, [], ◌∷◌, map, length, Option, Some, get_or, nat_le, slice_get, take, Bool}
+use Rattle.std.specs.Prelude.{◌≡◌, ℕ, suc, ◌+◌, ◌^◌, ◌<◌, ◌≤◌, ℤ, pos, false, true, List, [], ◌∷◌, map, length, Option, None, Some, get_or, nat_le, slice_get, take, Bool}
 use Rattle.std.specs.List.{Contains}
 use Rattle.plain_values.specs.Points.{IsPoints, has}
 use Rattle.lane_kernels.specs.Numbers.{FitsWidth}
@@ -34,14 +34,15 @@ use Rattle.machine_terms.specs.Jumps.{fetch}
 use Rattle.machine_terms.specs.Makes.{region_with}
 use Rattle.machine_terms.specs.Orders.{begun, result_of}
 use Rattle.value_laws.specs.Shapes.{IsPosition, KeepsNumbers}
-use Rattle.code_laws.specs.Pointers.{AllGoBack, ArePointed, IsCutIn}
-use Rattle.code_laws.specs.Simple.{IsScalar, IsSimple}
+use Rattle.code_laws.specs.Pointers.{ArePointed, IsCutIn, IsOfName, AllGoToParams}
+use Rattle.code_laws.specs.Simple.{IsRegion, IsScalar, IsSimple, term_in}
 use Rattle.code_rules.specs.Instructions.{place_of_task, tasks_of}
 use Rattle.machine_terms.specs.Opening.{opening, requirements_on}
 use Rattle.region_tree.specs.Requirements.{Requirement}
 use Rattle.task_code.specs.declared.code.NeedCode.{NeedCode}
 use Rattle.regent_tree.specs.Laws.{SameRoots}
-use Rattle.regent_tree.specs.Scopes.{scope_of}
+use Rattle.regent_tree.specs.Accesses.{space_in}
+use Rattle.regent_tree.specs.Scopes.{bound_as, scope_of}
 use Rattle.regent_tree.specs.Syntax.{Name, Tree}
 use Rattle.regent_tree.specs.Typing.{param_types, reaches_of, result_type}
 use Rattle.regent_tree.specs.declared.outcome.Fault.{Fault}
@@ -57,7 +58,7 @@ use Rattle.memory_laws.specs.Memory.{Holds, Memory, StandFor, memory_of}
 use Rattle.memory_laws.specs.Places.{number_at, numbers}
 use Rattle.run_report.specs.Dumps.{is_of_space}
 use Rattle.code_laws.specs.Steps.{Setting, Taking, placed, Leads, Ends}
-use Rattle.code_laws.specs.Taking.{AreParts, IsHad, given_region, is_asked, needs_taken, pairs_in, pairs_taken}
+use Rattle.code_laws.specs.Taking.{AreParts, IsHad, IsSubregion, given_region, is_asked, needs_taken, pairs_in, pairs_taken}
 
 -- a piece stands in a body at a place
 abbrev pub Stands : List Line → ℕ → Piece → Type 0
@@ -202,14 +203,14 @@ abbrev pub IsOfGiven : List Value → StaticType → Value → Type 0
 IsOfGiven vs (partition_type d r p) (a_partition q) = IsCutIn (given_region vs r) q
 IsOfGiven vs t v = Unit {0}
 
--- a task of the program, what it takes, of which its constraints hold, whose pointers go to parameters before them, a store that keeps numbers of its fields' types, and
+-- a task of the program, what it takes, of which its constraints hold, whose pointers go to parameters, a store that keeps numbers of its fields' types, and
 -- what the task requires of what it takes
 pub record Takes (takes : Option Taking) (code : Code) (tree : Tree) (task : Name) (vs : List Value) (store : Store)
     (c : Contents) : Type 0 where
   pub there : slice_get (tasks_of tree) (place_of_task tree task) ≡ Some (task_named tree task)
   pub taken : AreTaken (IsTaken takes code store) (param_types tree (task_named tree task)) vs
   pub parts : (y : Taking) → takes ≡ Some y → AreParts vs (pairs_in (scope_of tree (task_named tree task)).known)
-  pub back : AllGoBack (scope_of tree (task_named tree task)).names
+  pub goals : AllGoToParams (scope_of tree (task_named tree task)).names
   pub divided : AreTaken (IsOfGiven vs) (param_types tree (task_named tree task)) vs
   pub kept : KeepsNumbers tree store
   pub needs : List Requirement
@@ -282,10 +283,28 @@ AreBeside at c params roots [] names = Unit {0}
 AreBeside at c params roots (b ∷ bs) names = IsBeside at c params roots b.place b.static_type (get_or names b.place nothing)
     × AreBeside at c params roots bs names
 
+-- the region of a name with a number, among the names that were bound before it, within which another lies
+pub record IsUnderName (bs : List Bound) (names : List Value) (r : ℕ) (q : Region) : Type 0 where
+  pub whole : Region
+  pub is : IsOfName (bound_as bs r) (length bs) names (space_in (bound_as bs r).static_type) r whole
+  pub named : term_in (bound_as bs r).static_type ≡ term.Name r
+  pub within : IsSubregion q whole
+
+-- a value that is a region which began as a part lies within such
+abbrev pub IsUnder : Option Taking → List Bound → List Value → StaticType → Value → Type 0
+IsUnder None bs names t v = Unit {0}
+IsUnder (Some y) bs names t v = (i r : ℕ) (q : Region) → IsRegion t → term_in t ≡ term.Name i → y.params ≤ i → y.above i ≡ Some r →
+    v ≡ a_region q → IsUnderName bs names r q
+
+-- so does each name's value
+abbrev pub AreUnder : Option Taking → List Bound → List Value → Type 0
+AreUnder takes [] names = Unit {0}
+AreUnder takes (b ∷ bs) names = IsUnder takes bs names b.static_type (get_or names b.place nothing) × AreUnder takes bs names
+
 -- An instance agrees with a state: the names stand in their slots, the turns and the text are alike,
 -- and what it has of the roots stands for the store. The slots beside those of names that were in scope
 -- when the innermost loop's round began are as they were then, and so are the regions that these names had. Beside a
--- pointer into a part stands the part.
+-- pointer into a part stands the part. A region that began as a part lies within the region of which the partition is.
 pub record Agrees (x : Setting) (params slots : ℕ) (o : Aside) (h : Here) (s : State) (i : Instance) : Type 0 where
   pub names : (p : ℕ) → p < length s.names →
       get_or i.frame.slots (slot (where_of params h) p) blank
@@ -297,8 +316,9 @@ pub record Agrees (x : Setting) (params slots : ℕ) (o : Aside) (h : Here) (s :
       ≡ get_or o.slots (beside (where_of params h) p) blank)
   pub typed : AreOf IsOf h.scope.names s.names
   pub inside_store : AreOf (IsInside x s.store) h.scope.names s.names
-  pub pointed : ArePointed h.scope.names s.names
+  pub pointed : ArePointed params s.names h.scope.names
   pub steady : RegionsStay o.upto o.names s.names
+  pub under : AreUnder x.forms.takes h.scope.names s.names
   pub besides : AreBeside (λ p. get_or i.frame.slots (beside (where_of params h) p) blank) i.contents params (length s.store)
       h.scope.names s.names
   pub count : length s.names ≡ length h.scope.names

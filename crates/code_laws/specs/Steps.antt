@@ -18,12 +18,13 @@ use Rattle.machine_terms.specs.Machine.{Machine, Stepped, goes, prints, stops}
 use Rattle.machine_terms.specs.Orders.{Runner, resume_in, until_over}
 use Rattle.machine_terms.specs.Segments.{frame_after, step}
 
--- a task that may have regions among its parameters: how many parameters there are, what it needs of them, and which
--- of them have regions that lie within those of which others
+-- a task that may have regions among its parameters: how many parameters there are, what it needs of them, which
+-- of them have regions that lie within those of which others, and within which region one with a number begins as a part
 pub record Taking : Type 0 where
   pub params : ℕ
   pub needs : List NeedCode
   pub within : List (ℕ × ℕ)
+  pub above : ℕ → Option ℕ
 
 -- which forms a body may have beside those of numbers and truths: roots that are made, calls, regions that are
 -- handed over, and pointers that are kept, with loops over regions and indices in variables and fields

@@ -49,11 +49,16 @@ is_part y i j = is_subregion (known_of_pairs y.within) (term.Name i) (term.Name 
 abbrev pub is_need : Taking → ℕ → ℕ → Mode → NeedCode → Bool
 is_need y param field a n = is_part y param n.param && ((n.field == field) && allows n.mode a)
 
--- An access to a field of a region may be made: a parameter's is needed so, or that of one within which it lies. What
--- the task made itself it has whole.
+-- a region with a number lies within another: it is that one, or began as a part of one that lies within it
+pub data LiesUp (y : Taking) : ℕ → ℕ → Type 0 where
+  up_itself : (i : ℕ) → LiesUp y i i
+  up_part : (i r j : ℕ) → y.params ≤ i → y.above i ≡ Some r → LiesUp y r j → LiesUp y i j
+
+-- An access to a field of a region may be made: each parameter's within which it lies is needed so, or that of one within
+-- which that lies. What the task made itself it has whole.
 abbrev pub MayDo : Option Taking → Term → ℕ → Mode → Type 0
 MayDo None r field a = Unit {0}
-MayDo (Some y) (term.Name i) field a = i < y.params → list_any (is_need y i field a) y.needs ≡ true
+MayDo (Some y) (term.Name i) field a = (j : ℕ) → LiesUp y i j → j < y.params → list_any (is_need y j field a) y.needs ≡ true
 MayDo (Some y) (term.Child p c) field a = ⊥
 
 -- ---- what was given
@@ -75,23 +80,35 @@ IsSubregion q p = (q.root ≡ p.root) × LiesWithin q p
 abbrev pub AreParts : List Value → List (ℕ × ℕ) → Type 0
 AreParts args ps = (p : ℕ × ℕ) → Contains ps p → IsSubregion (given_region args p.0) (given_region args p.1)
 
--- what names a new region names no parameter
+-- what names a region names no parameter
 abbrev pub IsFresh : Option Taking → Term → Type 0
 IsFresh None r = Unit {0}
 IsFresh (Some y) (term.Name i) = y.params ≤ i
 IsFresh (Some y) (term.Child p c) = ⊥
 
--- a region is that of a parameter, which names it
-pub record IsGivenAs (args : List Value) (params : ℕ) (r : Term) (q : Region) : Type 0 where
-  pub place : ℕ
-  pub named : r ≡ term.Name place
-  pub below : place < params
-  pub is : given_region args place ≡ q
+-- how a variable begins, by its number: as a part of a region with another number, or as none
+abbrev pub BeginsWithin : Option Taking → ℕ → ℕ → Type 0
+BeginsWithin None own r = Unit {0}
+BeginsWithin (Some y) own r = (y.params ≤ own) × (y.above own ≡ Some r)
 
--- A region is of a root that the task made itself, behind those that were there before it; or it was given.
+abbrev pub BeginsWhole : Option Taking → ℕ → Type 0
+BeginsWhole None own = Unit {0}
+BeginsWhole (Some y) own = (y.params ≤ own) × (y.above own ≡ None)
+
+-- a region lies within that of a parameter, and is that one where the parameter names it
+pub record IsGivenAs (args : List Value) (y : Taking) (r : Term) (q : Region) : Type 0 where
+  pub number : ℕ
+  pub named : r ≡ term.Name number
+  pub place : ℕ
+  pub up : LiesUp y number place
+  pub below : place < y.params
+  pub within : IsSubregion q (given_region args place)
+  pub is : number < y.params → given_region args number ≡ q
+
+-- A region is of a root that the task made itself, behind those that were there before it; or it lies within one that was given.
 abbrev pub IsHadBy : Option Taking → Setting → Term → Region → Type 0
 IsHadBy None x r q = length x.before ≤ q.root
-IsHadBy (Some y) x r q = ((length x.before ≤ q.root) × IsFresh (Some y) r) ⊎ IsGivenAs x.args y.params r q
+IsHadBy (Some y) x r q = ((length x.before ≤ q.root) × IsFresh (Some y) r) ⊎ IsGivenAs x.args y r q
 
 abbrev pub IsHad : Setting → Term → Region → Type 0
 IsHad x r q = IsHadBy x.forms.takes x r q

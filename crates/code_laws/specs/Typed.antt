@@ -1,7 +1,6 @@
--- Well-typed expressions and statements of numbers and truths, also those of fields at points of regions that
--- have names, of indices, and of loops over index spaces. Roots are made, tasks called, regions handed over, and
--- pointers and partitions kept, where the forms allow it.
-use Rattle.std.specs.Prelude.{◌≡◌, ◌⊎◌, Bool, ℕ, suc, ◌<◌, ◌≤◌, ℤ, pos, ◌+ℤ◌, int_lt, length, slice_get, List, [], ◌∷◌, true, false, Some, None}
+-- Well-typed expressions and statements of numbers, truths and indices, of fields of regions that have names, and of loops. Roots are
+-- made, tasks called, regions handed over, and pointers and partitions kept, where the forms allow it.
+use Rattle.std.specs.Prelude.{◌≡◌, ◌⊎◌, Bool, ℕ, ◌<◌, ◌≤◌, length, slice_get, List, Option, [], ◌∷◌, true, false, Some, None}
 use Rattle.lane_kernels.specs.Numbers.{FitsWidth}
 use Rattle.lane_kernels.specs.declared.numbers.Mode.{Mode}
 use Rattle.lane_kernels.specs.declared.numbers.Mode.TheVariants as mode
@@ -17,24 +16,23 @@ use Rattle.regent_tree.specs.Accesses.{args_in, space_in}
 use Rattle.regent_tree.specs.StaticTypes.{Reach, field_kind, field_place, field_term, field_type, place_of_space, space_at, spaces_of, task_named}
 use Rattle.regent_tree.specs.Lookup.{is_bound}
 use Rattle.regent_tree.specs.Execution.{before_last, last_field}
-use Rattle.regent_tree.specs.Scopes.{scope_of}
-use Rattle.regent_tree.specs.Numbers.{distance}
-use Rattle.regent_tree.specs.Syntax.{a_statement, Form, var_form, if_form, while_form, for_in_form, for_to_form, do_form, assert_form, print_form, assign_form, return_form, Block, no_statement, then_statement, Arms, no_arm, an_arm, Otherwise, no_else, else_block, both_initializer, by_field_initializer, either_initializer, equal_initializer, image_initializer, preimage_initializer, plain_initializer, region_initializer, Name, Tree, fill_form, call_form, call_expr, Expression, number_expr, truth_expr, chain_expr, prefix_expr, access_expr, convert_expr, Expressions, no_expr, an_expr, Links, no_link, a_link, Steps, no_step, field_step, at_step, space_expr, is_null_expr, null_expr, cast_expr}
-use Rattle.regent_tree.specs.Scopes.{bound_as}
-use Rattle.regent_tree.specs.Typing.{arithmetic_type, has_wild, is_disjoint, operated, param_types, params_at, parent_of, reaches_of, result_type, taken_from, type_of_element, type_of_field, var_type}
+use Rattle.regent_tree.specs.Syntax.{a_statement, Form, var_form, if_form, while_form, for_in_form, for_to_form, do_form, assert_form, print_form, assign_form, return_form, Block, no_statement, then_statement, Arms, no_arm, an_arm, Otherwise, no_else, else_block, both_initializer, by_field_initializer, either_initializer, equal_initializer, image_initializer, preimage_initializer, plain_initializer, region_initializer, Name, Tree, fill_form, call_form, call_expr, Expression, number_expr, truth_expr, chain_expr, prefix_expr, access_expr, convert_expr, Expressions, no_expr, an_expr, Links, no_link, a_link, Steps, no_step, field_step, at_step, space_expr, is_null_expr, null_expr, cast_expr, Initializer}
+use Rattle.regent_tree.specs.Scopes.{bound_as, scope_of}
+use Rattle.regent_tree.specs.Typing.{arithmetic_type, has_wild, initializer_type, is_disjoint, operated, param_types, params_at, parent_of, reaches_of, result_type, taken_from, type_of_element, type_of_field, var_type}
 use Rattle.code_laws.specs.Arguments.{AreDivided, AreMet, ArePaired, AreParted, IsCutName, IsHanded, IsHandedPart, IsParent, LiesBelow, parent_bound}
-use Rattle.code_laws.specs.Pointers.{AreThere, Assigned, BeginsAs, BeginsWith, ConvertsTo, CountsAs, FieldKeeps, FillsInto, IsAssigned, IsCompared, IsCounting, IsPointer, IsRead, IsWritten, PassesInto, SignedAs, AllGoBack}
+use Rattle.code_laws.specs.Pointers.{AreThere, Assigned, BeginsAs, BeginsWith, ConvertsTo, CountsAs, FieldKeeps, FillsInto, IsAssigned, IsCompared, IsCounting, IsLike, IsPointer, IsRead, IsWritten, PassesInto, SignedAs, AllGoToParams}
 use Rattle.code_laws.specs.Simple.{IsInteger, IsTruth, IsScalar, IsSimple, IsSpace, IsRegion, AreAlike, FieldFits, term_in}
 use Rattle.code_rules.specs.Instructions.{place_of_task, tasks_of}
 use Rattle.code_rules.specs.Programs.{task_code}
-use Rattle.code_laws.specs.Steps.{Forms}
-use Rattle.code_laws.specs.Taking.{IsFresh, MayDo, pairs_in}
+use Rattle.code_laws.specs.Steps.{Forms, Taking}
+use Rattle.code_laws.specs.Taking.{BeginsWhole, BeginsWithin, MayDo, pairs_in}
 use Rattle.code_rules.specs.Slots.{Where, typed, bound, slot_named, slots_of}
 use Rattle.code_rules.specs.Expressions.{count}
 use Rattle.code_rules.specs.Statements.{on_line, after_form, after_arm, after_arms, looping}
 use Rattle.check_laws.specs.SoundScopes.{Falls}
 use Rattle.local_form.specs.LocalForm.{are_fields}
 use Rattle.check_rules.specs.rules.Formats.{numbers_in}
+pub use Rattle.code_laws.specs.Counting.{CountsDown}
 
 -- A name in scope has a region, and the field is one of its field space, which keeps values of a type.
 pub record IsField (w : Where) (n f : Name) (t : StaticType) : Type 0 where
@@ -139,10 +137,10 @@ abbrev pub IsDifference : Where → Expression → Type 0
 IsDifference w (chain_expr (access_expr p no_step) (a_link (Compute Subtract) (access_expr q no_step) no_link)) = ArePaired w p q
 IsDifference w e = ⊥
 
--- so a variable begins, or also with such a difference
-abbrev pub IsBegun : Bool → Where → Expression → Type 0 → Type 0
-IsBegun false w e Begins = Begins
-IsBegun true w e Begins = Begins ⊎ IsDifference w e
+-- so a variable begins, or also with such a difference, or as a part
+abbrev pub IsBegun : Bool → Where → Expression → Type 0 → Type 0 → Type 0
+IsBegun false w e Begins Part = Begins
+IsBegun true w e Begins Part = Begins ⊎ (IsDifference w e ⊎ Part)
 
 -- a pointer to an element of a region that has a name goes through the name's slot
 abbrev pub GoesThrough : Where → Name → Expression → Type 0
@@ -156,6 +154,14 @@ abbrev pub IsCalled : Tree → Name → Type 0
 IsCalled tree task =
     (slice_get (tasks_of tree) (place_of_task tree task) ≡ Some (task_named tree task))
     × ((task_code tree (task_named tree task)).needs ≡ [])
+
+-- a part of a partition that has a name, of a region that has one, with which a variable begins
+abbrev pub BeginsAsPart : Option Taking → Where → Expression → Type 0 → Type 0
+BeginsAsPart takes w (access_expr n (at_step e no_step)) Part =
+    LoopsOverPart w (access_expr n (at_step e no_step)) Part
+    × (term_in (parent_bound w n).static_type ≡ term.Name (parent_of (bound w n).static_type))
+    × BeginsWithin takes w.scope.next (parent_of (bound w n).static_type)
+BeginsAsPart takes w e Part = ⊥
 
 -- the access may be made to a field of a name's region
 abbrev pub MayTouch : Forms → Where → Name → ℕ → Mode → Type 0
@@ -204,14 +210,14 @@ abbrev pub MayGo : Forms → Where → Name → Name → Mode → Type 0
 MayGo forms w n f a = MayReach forms w (reaches_of (bound w n).static_type)
     (field_place w.tree (space_in (bound w n).static_type) f) a
 
--- a task of the program, whose needs are met, of whose parameters the constraints hold, whose pointers go to parameters
--- before them, and whose partitions are of the regions that it is given
+-- a task of the program, whose needs are met, of whose parameters the constraints hold, whose pointers go to parameters,
+-- and whose partitions are of the regions that it is given
 abbrev pub IsCallable : Forms → Where → Name → Expressions → Type 0
 IsCallable forms w task args =
     (slice_get (tasks_of w.tree) (place_of_task w.tree task) ≡ Some (task_named w.tree task))
     × AreMet forms.keeps forms.takes w args (task_code w.tree (task_named w.tree task)).needs
     × AreParted forms.keeps forms.takes w args (pairs_in (scope_of w.tree (task_named w.tree task)).known)
-    × AllGoBack (scope_of w.tree (task_named w.tree task)).names
+    × AllGoToParams (scope_of w.tree (task_named w.tree task)).names
     × AreDivided w args 0 (param_types w.tree (task_named w.tree task))
 
 -- a number or truth, an index or a pointer where these are kept, a region or a partition that has a name, or a part of a partition that has one is given
@@ -310,24 +316,30 @@ pub record IsMakable (tree : Tree) (space : ℕ) : Type 0 where
   pub there : space < length (spaces_of tree)
   pub few : length (space_at tree space).fields ≤ 256
 
+-- how a variable begins that is a region or a partition
+abbrev pub IsBegunBy : Forms → Where → Initializer → Type 0
+IsBegunBy forms w (region_initializer e u) = (forms.makes ≡ true) × IsSpace (typed w e)
+    × IsTyped forms w e × IsMakable w.tree (place_of_space w.tree u.name) × BeginsWhole forms.takes w.scope.next
+IsBegunBy forms w (equal_initializer r e) = (forms.keeps ≡ true) × IsSpace (typed w e) × IsTyped forms w e × IsParent w r
+IsBegunBy forms w (by_field_initializer r f e) = (forms.keeps ≡ true) × IsSpace (typed w e) × IsTyped forms w e × IsScanned forms w r f
+IsBegunBy forms w (image_initializer s p r f) = (forms.keeps ≡ true) × IsParent w s × IsCutName w p
+    × IsScanned forms w r f × LiesBelow forms.takes w (parent_bound w p) (bound w r)
+IsBegunBy forms w (preimage_initializer s p r f) = (forms.keeps ≡ true) × IsParent w s × IsCutName w p
+    × IsScanned forms w r f × LiesBelow forms.takes w (bound w s) (bound w r)
+IsBegunBy forms w (both_initializer p q) = (forms.keeps ≡ true) × ArePaired w p q
+IsBegunBy forms w (either_initializer p q) = (forms.keeps ≡ true) × ArePaired w p q
+IsBegunBy forms w (plain_initializer e) = ⊥
+
 abbrev mutual
   pub IsTypedForm : Forms → Where → Form → Type 0
-  IsTypedForm forms w (var_form n None (Some (plain_initializer e))) = IsBegun forms.keeps w e (IsKeepable forms.keeps w e × IsTyped forms w e)
-  IsTypedForm forms w (var_form n None (Some (region_initializer e u))) = (forms.makes ≡ true) × IsSpace (typed w e)
-      × IsTyped forms w e × IsMakable w.tree (place_of_space w.tree u.name) × IsFresh forms.takes (term.Name w.scope.next)
-  IsTypedForm forms w (var_form n None (Some (equal_initializer r e))) = (forms.keeps ≡ true) × IsSpace (typed w e)
-      × IsTyped forms w e × IsParent w r
-  IsTypedForm forms w (var_form n None (Some (by_field_initializer r f e))) = (forms.keeps ≡ true) × IsSpace (typed w e)
-      × IsTyped forms w e × IsScanned forms w r f
-  IsTypedForm forms w (var_form n None (Some (image_initializer s p r f))) = (forms.keeps ≡ true) × IsParent w s × IsCutName w p
-      × IsScanned forms w r f × LiesBelow forms.takes (parent_bound w p) (bound w r)
-  IsTypedForm forms w (var_form n None (Some (preimage_initializer s p r f))) = (forms.keeps ≡ true) × IsParent w s × IsCutName w p
-      × IsScanned forms w r f × LiesBelow forms.takes (bound w s) (bound w r)
-  IsTypedForm forms w (var_form n None (Some (both_initializer p q))) = (forms.keeps ≡ true) × ArePaired w p q
-  IsTypedForm forms w (var_form n None (Some (either_initializer p q))) = (forms.keeps ≡ true) × ArePaired w p q
+  IsTypedForm forms w (var_form n None (Some (plain_initializer e))) =
+      IsBegun forms.keeps w e (IsKeepable forms.keeps w e × IsTyped forms w e) (BeginsAsPart forms.takes w e (IsIndexed forms w e))
+  IsTypedForm forms w (var_form n None (Some start)) = IsBegunBy forms w start
   IsTypedForm forms w (var_form n (Some t) (Some (plain_initializer e))) =
       BeginsWith forms.keeps w.scope.names (typed w e) (var_type w.tree w.scope (Some t) (Some (plain_initializer e)))
       × IsTyped forms w e
+  IsTypedForm forms w (var_form n (Some t) (Some start)) = (forms.keeps ≡ true)
+      × IsLike (var_type w.tree w.scope (Some t) (Some start)) (initializer_type w.tree w.scope w.scope.next start) × IsBegunBy forms w start
   IsTypedForm forms w (var_form n (Some t) None) = BeginsAs forms.keeps w.scope.names (var_type w.tree w.scope (Some t) None)
   IsTypedForm forms w (if_form arms other) = AreTypedArms forms w w arms × IsTypedElse forms (after_arms w arms) other
   IsTypedForm forms w (while_form test body) =
@@ -353,8 +365,7 @@ abbrev mutual
       × CountsAs forms.keeps (typed w e) × GoesThrough w n e × IsFieldOf forms.keeps w n f (element_field w n e f)
       × MayTouch forms w n (field_place w.tree (space_in (bound w n).static_type) f) mode.Write
   IsTypedForm forms w (assign_form n (field_step f no_step) how.Set y) = (forms.keeps ≡ true)
-      × Assigned (typed w y) (field_behind w n f) × IsTyped forms w y × IsBehind w n f (field_behind w n f)
-      × MayGo forms w n f mode.Write
+      × Assigned (typed w y) (field_behind w n f) × IsTyped forms w y × IsBehind w n f (field_behind w n f) × MayGo forms w n f mode.Write
   IsTypedForm forms w (assign_form n (field_step f no_step) (how.Reduce o) y) = (forms.keeps ≡ true)
       × IsInteger (typed w y) × IsInteger (field_behind w n f) × IsTyped forms w y × IsBehind w n f (field_behind w n f)
       × MayGo forms w n f (mode.Reduce o)
@@ -387,11 +398,3 @@ abbrev mutual
   IsTypedBlock forms w no_statement = Unit {0}
   IsTypedBlock forms w (then_statement (a_statement line form) rest) =
       IsTypedForm forms (on_line w line) form × IsTypedBlock forms (after_form w form) rest
-
--- ---- counting
-
--- how many numbers there are from one to below another
-pub record CountsDown : Type 0 where
-  pub none : (a b : ℤ) → distance a b ≡ 0 → int_lt a b ≡ false
-  pub some : (k : ℕ) (a b : ℤ) → distance a b ≡ suc k →
-      (int_lt a b ≡ true) × (distance (a +ℤ pos 1) b ≡ k)

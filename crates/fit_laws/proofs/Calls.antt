@@ -10,6 +10,7 @@ use Rattle.task_code.specs.declared.code.NeedCode.{NeedCode}
 use Rattle.task_code.specs.declared.code.TaskCode.{TaskCode}
 use Rattle.machine_terms.specs.declared.outcome.Yield.{Yield}
 use Rattle.machine_terms.specs.declared.outcome.Yield.TheVariants as yield
+use Rattle.machine_terms.specs.declared.value.PartitionValue.{PartitionValue}
 use Rattle.machine_terms.specs.declared.value.RegionValue.{RegionValue}
 use Rattle.machine_terms.specs.declared.value.Value.{Value}
 use Rattle.machine_terms.specs.declared.value.Value.TheVariants as value
@@ -17,7 +18,7 @@ use Rattle.machine_terms.specs.Machine.{Machine, Stepped, stops, when, with_turn
 use Rattle.machine_terms.specs.Pointers.{region_in}
 use Rattle.machine_terms.specs.Calls.{take_values, yield_call, calling, call_task, call}
 use Rattle.machine_terms.specs.Opening.{with_points, need_on, needs_on, opening}
-use Rattle.fit_rules.specs.Shapes.{Shape, awaited, NumberIs, World, IsRegion, Is, is_anything, is_number, is_space, is_region, is_partition, is_pending, Are, are_none, are_more, Origin, unknown, Each, ComesFrom, argument, own_root, own_as, part}
+use Rattle.fit_rules.specs.Shapes.{Shape, awaited, NumberIs, World, IsPartition, IsRegion, Is, is_anything, is_number, is_space, is_region, is_partition, is_cut, is_pending, Are, are_none, are_more, Origin, unknown, Each, ComesFrom, argument, own_root, own_as, part}
 use Rattle.fit_rules.specs.Marks.{Suits, stacked}
 use Rattle.fit_rules.specs.Fits.{Program, requires, claim_on, declared_claims, root_claims, own_claims, claims, AreClaims, no_claims, a_claim, PartsFit, Fits}
 use Rattle.fit_rules.specs.Sound.{Takes, Opens, To, Settled}
@@ -42,19 +43,24 @@ module _ (x : World) (s : Shape) where
   other_child : (i : ℕ) → i < x.children → i == x.children ≡ false
   other_child i l = ne_eqb i x.children (λ e. omega (arith, e, l))
 
-  value_grown : (u : Shape) (v : Value) → Is x u v → Is (grown x s) u v
-  value_grown _ _ (is_anything v) = is_anything v
-  value_grown _ _ (is_number u z h) = is_number u z h
-  value_grown _ _ (is_space n h) = is_space n h
-  value_grown _ _ (is_region sp o r i) = is_region sp o r (region_grown sp o r i)
-  value_grown _ _ (is_partition sp d q i) = is_partition sp d q (record {
+  partition_grown : (sp : Option ℕ) (d : Bool) (q : PartitionValue) → IsPartition x sp d q → IsPartition (grown x s) sp d q
+  partition_grown sp d q i = record {
     flag = i.flag;
     apart = i.apart;
     there = i.there;
     space = i.space;
     count = i.count;
     regions = λ r h. ((i.regions r h).0, region_grown sp unknown r (i.regions r h).1);
-  })
+  }
+
+  value_grown : (u : Shape) (v : Value) → Is x u v → Is (grown x s) u v
+  value_grown _ _ (is_anything v) = is_anything v
+  value_grown _ _ (is_number u z h) = is_number u z h
+  value_grown _ _ (is_space n h) = is_space n h
+  value_grown _ _ (is_region sp o r i) = is_region sp o r (region_grown sp o r i)
+  value_grown _ _ (is_partition sp d q i) = is_partition sp d q (partition_grown sp d q i)
+  value_grown _ _ (is_cut sp d o q i c) = is_cut sp d o q (partition_grown sp d q i)
+      (record { parent = c.parent; origin = origin_grown o c.parent c.origin; root = c.root; inside = c.inside })
   value_grown _ _ (is_pending u i l h) = is_pending u i (omega (arith, l))
       (λ z q. h z (subst (λ b. NumberIs (cond b s (x.results i)) z) (other_child i l) q))
 

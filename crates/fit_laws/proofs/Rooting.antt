@@ -14,13 +14,14 @@ use Rattle.task_code.specs.declared.code.SpaceCode.{SpaceCode}
 use Rattle.task_code.specs.declared.code.TaskCode.{TaskCode}
 use Rattle.machine_terms.specs.declared.outcome.Made.TheVariants as made
 use Rattle.machine_terms.specs.declared.outcome.Yield.TheVariants as yield
+use Rattle.machine_terms.specs.declared.value.PartitionValue.{PartitionValue}
 use Rattle.machine_terms.specs.declared.value.RegionValue.{RegionValue}
 use Rattle.machine_terms.specs.declared.value.Value.{Value}
 use Rattle.machine_terms.specs.declared.value.Value.TheVariants as value
 use Rattle.machine_terms.specs.Machine.{Machine, stops, when, at, broken}
 use Rattle.machine_terms.specs.Parts.{cell_at}
 use Rattle.machine_terms.specs.Regions.{on_space, root_of_space, new_root}
-use Rattle.fit_rules.specs.Shapes.{Among, OfSpace, Shape, space, region, World, IsRegion, Is, is_anything, is_number, is_space, is_region, is_partition, is_pending, Are, are_none, are_more, IsWhole, Origin, Each, KnowsRoots, ComesFrom, unknown, own_as, argument, own_root, part}
+use Rattle.fit_rules.specs.Shapes.{Among, OfSpace, Shape, space, region, World, IsRegion, Is, is_anything, is_number, is_space, is_region, is_partition, is_cut, is_pending, IsPartition, Are, are_none, are_more, IsWhole, Origin, Each, KnowsRoots, ComesFrom, unknown, own_as, argument, own_root, part}
 use Rattle.fit_rules.specs.Marks.{stacked}
 use Rattle.fit_rules.specs.Fits.{Program, count_at, kind_at, shape_at, root_claims, requires, declared_claims, own_claims, claims, AreClaims, no_claims, a_claim, CellFits, PartsFit, Fits}
 use Rattle.fit_rules.specs.Sound.{To, IsOther}
@@ -73,18 +74,27 @@ module _ (x : World) (i root sp n : ℕ) (fresh : x.there root ≡ false) where
     origin = origin_rooted s o r h q.there q.origin;
   }
 
-  value_rooted : (u : Shape) (v : Value) → IsOther i u → Is x u v → Is (rooted x i root sp n) u v
-  value_rooted _ _ h (is_anything v) = is_anything v
-  value_rooted _ _ h (is_number u z q) = is_number u z q
-  value_rooted _ _ h (is_space l q) = is_space l q
-  value_rooted _ _ h (is_region s o r q) = is_region s o r (region_rooted s o r h q)
-  value_rooted _ _ h (is_partition s d p q) = is_partition s d p (record {
+  partition_rooted : (s : Option ℕ) (d : Bool) (p : PartitionValue) → IsPartition x s d p → IsPartition (rooted x i root sp n) s d p
+  partition_rooted s d p q = record {
     flag = q.flag;
     apart = q.apart;
     there = still_there p.root.0 q.there;
     space = subst (OfSpace s) (sym (same_space p.root.0 q.there)) q.space;
     count = q.count;
     regions = λ r l. ((q.regions r l).0, region_rooted s unknown r tt (q.regions r l).1);
+  }
+
+  value_rooted : (u : Shape) (v : Value) → IsOther i u → Is x u v → Is (rooted x i root sp n) u v
+  value_rooted _ _ h (is_anything v) = is_anything v
+  value_rooted _ _ h (is_number u z q) = is_number u z q
+  value_rooted _ _ h (is_space l q) = is_space l q
+  value_rooted _ _ h (is_region s o r q) = is_region s o r (region_rooted s o r h q)
+  value_rooted _ _ h (is_partition s d p q) = is_partition s d p (partition_rooted s d p q)
+  value_rooted _ _ h (is_cut s d o p q c) = is_cut s d o p (partition_rooted s d p q) (record {
+    parent = c.parent;
+    origin = origin_rooted s o c.parent h (ap x.there (sym c.root) ∙ q.there) c.origin;
+    root = c.root;
+    inside = c.inside;
   })
   value_rooted _ _ h (is_pending u j l q) = is_pending u j l q
 

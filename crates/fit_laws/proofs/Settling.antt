@@ -11,7 +11,7 @@ use Rattle.machine_terms.specs.declared.value.Value.TheVariants as value
 use Rattle.machine_terms.specs.Orders.{settled}
 use Rattle.machine_terms.specs.Pointers.{region_in}
 use Rattle.machine_terms.specs.Regions.{partition_in}
-use Rattle.fit_rules.specs.Shapes.{Each, Shape, awaited, Numeric, numeric_integer, numeric_truth, numeric_index, numeric_pointer, NumberIs, World, Is, is_anything, is_number, is_space, is_region, is_partition, is_pending, Are, are_none, are_more}
+use Rattle.fit_rules.specs.Shapes.{Each, Shape, awaited, Numeric, numeric_integer, numeric_truth, numeric_index, numeric_pointer, NumberIs, World, Is, is_anything, is_number, is_space, is_region, is_partition, is_cut, is_pending, Are, are_none, are_more}
 use Rattle.fit_rules.specs.Marks.{Colour, the_colour, colour_in, any_colour, Spot, in_slot, child_in, Fact, lies, apart, parted, counts, HasNumber, HasColour, IsAt, LiesAt, IsParted, AtMost, size_in, Holds, TopFact, top_colour, top_lies, top_parted, HoldsTop, Mark, Suits, IsStanding, SpotStands, ColoursStand}
 use Rattle.fit_laws.proofs.Lookup.{value_at}
 
@@ -22,6 +22,7 @@ module _ (x : World) (i : ℕ) (z : ℤ) (h : NumberIs (x.results i) z) where
   settled_is _ _ (is_space n l) = is_space n l
   settled_is _ _ (is_region sp o r q) = is_region sp o r q
   settled_is _ _ (is_partition sp d p q) = is_partition sp d p q
+  settled_is _ _ (is_cut sp d o p q c) = is_cut sp d o p q c
   settled_is _ _ (is_pending s j l q) = of_test (i == j) refl
     where
       of_test : (b : Bool) → i == j ≡ b → Is x (awaited s) (cond b (value.Number z) (value.Pending j))

@@ -14,10 +14,10 @@ use Rattle.machine_terms.specs.declared.value.Value.TheVariants.{Number}
 use Rattle.machine_terms.specs.Machine.{Machine, Stepped, at, next, on_number, on_turn, on_two, with_turns}
 use Rattle.machine_terms.specs.Numbers.{load, divided}
 use Rattle.machine_terms.specs.Pointers.{point}
-use Rattle.fit_rules.specs.Shapes.{Shape, integer, index, Numeric, numeric_integer, numeric_truth, numeric_index, numeric_pointer, NumberIs, World, Is, is_number, is_space, is_region, is_partition, Are, are_more}
+use Rattle.fit_rules.specs.Shapes.{Shape, integer, index, Numeric, numeric_integer, numeric_truth, numeric_index, numeric_pointer, NumberIs, World, Is, is_number, is_space, is_region, is_partition, is_cut, Are, are_more}
 use Rattle.fit_rules.specs.Marks.{TopFact, HoldsTop, Mark, Suits, stacked, topped}
 use Rattle.fit_rules.specs.Fits.{Program, Beside, Fits, PartsFit}
-use Rattle.fit_rules.specs.Sound.{Settled, settled_number, settled_space, settled_region, settled_partition, To}
+use Rattle.fit_rules.specs.Sound.{Settled, settled_number, settled_space, settled_region, settled_partition, settled_cut, To}
 use Rattle.fit_rules.specs.Ends.{Safe, safe_goes, safe_stops}
 use Rattle.fit_laws.proofs.Numbers.{wrapped_fits, small_fits, point_below}
 
@@ -126,6 +126,9 @@ module _ (g : Program) (x : World) (t : TaskCode) (k : ℕ) (m : Machine) (fit :
   loads _ ss _ (settled_partition sp d) h (is_partition _ _ r i) a =
       safe_next _ _ h (are_more _ _ _ _ (is_partition sp d r i) a)
   loads _ ss _ (settled_partition sp d) h (is_number _ z i) a = absurd i
+  loads _ ss _ (settled_cut sp d o) h (is_cut _ _ _ r i c) a =
+      safe_next _ _ h (are_more _ _ _ _ (is_cut sp d o r i c) a)
+  loads _ ss _ (settled_cut sp d o) h (is_number _ z i) a = absurd i
 
   -- ---- arithmetic
 

@@ -10,10 +10,10 @@ use Rattle.machine_terms.specs.Machine.{Machine}
 use Rattle.machine_terms.specs.Calls.{Taken, few, taken, is_pending, take_values, count_numbers, text_of, before_text, writing, printing, print}
 use Rattle.machine_terms.specs.Pointers.{region_in}
 use Rattle.std.proofs.lemmas.Option.{none-some, same_Some}
-use Rattle.fit_rules.specs.Shapes.{Each, Shape, Numeric, numeric_integer, numeric_truth, numeric_index, numeric_pointer, World, Is, is_number, is_space, is_region, is_partition, Are, are_none, are_more}
+use Rattle.fit_rules.specs.Shapes.{Each, Shape, Numeric, numeric_integer, numeric_truth, numeric_index, numeric_pointer, World, Is, is_number, is_space, is_region, is_partition, is_cut, Are, are_none, are_more}
 use Rattle.fit_rules.specs.Marks.{stacked}
 use Rattle.fit_rules.specs.Fits.{Program, Fits}
-use Rattle.fit_rules.specs.Sound.{Settled, settled_number, settled_space, settled_region, settled_partition, Takes, takes_none, takes_more, To}
+use Rattle.fit_rules.specs.Sound.{Settled, settled_number, settled_space, settled_region, settled_partition, settled_cut, Takes, takes_none, takes_more, To}
 use Rattle.fit_rules.specs.Ends.{Safe, safe_prints}
 use Rattle.fit_laws.proofs.Straight.{fits_at}
 use Rattle.machine_terms.specs.declared.value.RegionValue.{RegionValue}
@@ -36,6 +36,8 @@ module _ (x : World) where
   at_hand _ _ (settled_region sp o) (is_region _ _ r h) = refl
   at_hand _ _ (settled_partition sp d) (is_number _ z h) = refl
   at_hand _ _ (settled_partition sp d) (is_partition _ _ q h) = refl
+  at_hand _ _ (settled_cut sp d o) (is_number _ z h) = refl
+  at_hand _ _ (settled_cut sp d o) (is_cut _ _ _ q h c) = refl
 
   -- and a region that is at hand is of a root that is there
   one_there : (s : Shape) (v : Value) (r : RegionValue) → Settled s → Is x s v → region_in (Some v) ≡ Some r → x.there r.root.0 ≡ true
@@ -49,6 +51,8 @@ module _ (x : World) where
   one_there _ _ r (settled_region sp o) (is_region _ _ q h) e = subst (λ (y : RegionValue). x.there y.root.0 ≡ true) (same_Some q r e) h.there
   one_there _ _ r (settled_partition sp d) (is_number _ z h) e = absurd (none-some r e)
   one_there _ _ r (settled_partition sp d) (is_partition _ _ q h) e = absurd (none-some r e)
+  one_there _ _ r (settled_cut sp d o) (is_number _ z h) e = absurd (none-some r e)
+  one_there _ _ r (settled_cut sp d o) (is_cut _ _ _ q h c) e = absurd (none-some r e)
 
   pub all_there : (ss : List Shape) (vs : List Value) → Each Settled ss → Are x ss vs → (i : ℕ) (r : RegionValue) →
       region_in (slice_get vs i) ≡ Some r → x.there r.root.0 ≡ true

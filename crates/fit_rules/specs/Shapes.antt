@@ -36,8 +36,8 @@ pub data Origin : Type 0 where
 
 -- The shape of a slot or of a cell of the stack: anything at all; a number of a width; a truth; an
 -- index; a pointer with so many positions; an index space; a region of a field space, or of any, with its
--- origin; a partition into regions, known to be disjoint or not; and the result of a child, which may be
--- pending.
+-- origin; a partition into regions, known to be disjoint or not; one of a region with an origin; and the result of a
+-- child, which may be pending.
 pub data Shape : Type 0 where
   anything : Shape
   integer : Width → Shape
@@ -47,6 +47,7 @@ pub data Shape : Type 0 where
   space : Shape
   region : Option ℕ → Origin → Shape
   partition : Option ℕ → Bool → Shape
+  cut_from : Option ℕ → Bool → Origin → Shape
   awaited : Shape → Shape
 
 -- those of numbers
@@ -135,6 +136,13 @@ pub record IsPartition (x : World) (sp : Option ℕ) (d : Bool) (q : PartitionVa
   pub regions : (r : RegionValue) → Among q.children r →
       (r.root.0 ≡ q.root.0) × IsRegion x sp unknown r
 
+-- it is of a region with an origin: of its root, and each child lies within it
+pub record IsCutOf (x : World) (o : Origin) (q : PartitionValue) : Type 0 where
+  pub parent : RegionValue
+  pub origin : ComesFrom x o parent
+  pub root : q.root.0 ≡ parent.root.0
+  pub inside : (r : RegionValue) → Among q.children r → LiesIn r parent
+
 -- ---- values
 
 -- a value is of a shape
@@ -146,6 +154,8 @@ pub data Is (x : World) : Shape → Value → Type 0 where
       Is x (region sp o) (value.Region r)
   is_partition : (sp : Option ℕ) (d : Bool) (q : PartitionValue) → IsPartition x sp d q →
       Is x (partition sp d) (value.Partition q)
+  is_cut : (sp : Option ℕ) (d : Bool) (o : Origin) (q : PartitionValue) → IsPartition x sp d q → IsCutOf x o q →
+      Is x (cut_from sp d o) (value.Partition q)
   is_pending : (s : Shape) (i : ℕ) → i < x.children →
       ((z : ℤ) → NumberIs (x.results i) z → NumberIs s z) → Is x (awaited s) (value.Pending i)
 

@@ -23,7 +23,7 @@ use Rattle.machine_terms.specs.Jumps.{may_jump, fetch, taken, point_at}
 use Rattle.machine_terms.specs.Opening.{opening}
 use Rattle.machine_terms.specs.Pointers.{region_in}
 use Rattle.code_rules.specs.Instructions.{computing, comparing}
-use Rattle.fit_rules.specs.Shapes.{Among, Each, Shape, integer, truth, index, pointer, space, region, partition, awaited, Numeric, NumberIs, Origin, own_as, part, unknown, World, KnowsRoots, Are}
+use Rattle.fit_rules.specs.Shapes.{Among, Each, Shape, integer, truth, index, pointer, space, region, partition, cut_from, awaited, Numeric, NumberIs, Origin, own_as, part, unknown, World, KnowsRoots, Are}
 use Rattle.fit_rules.specs.Marks.{counts, lies, in_slot, the_colour, colour_in, Colour, child_in, top_colour, top_lies, top_parted, parted, Mark, Suits, Into, Stores, ColoursStand, stacked, topped}
 use Rattle.fit_rules.specs.Fits.{Program, kind_at, shape_at, Covers, declared_claims, claims}
 use Rattle.fit_rules.specs.Ends.{IsNeeded, called}
@@ -34,6 +34,7 @@ pub data Settled : Shape → Type 0 where
   settled_space : Settled space
   settled_region : (sp : Option ℕ) (o : Origin) → Settled (region sp o)
   settled_partition : (sp : Option ℕ) (d : Bool) → Settled (partition sp d)
+  settled_cut : (sp : Option ℕ) (d : Bool) (o : Origin) → Settled (cut_from sp d o)
 
 -- what comes from there isn't known to be of the root that the task made last under a number, and so of a shape
 abbrev pub IsElsewhere : ℕ → Origin → Type 0
@@ -43,6 +44,7 @@ IsElsewhere i o = Unit {0}
 
 abbrev pub IsOther : ℕ → Shape → Type 0
 IsOther i (region sp o) = IsElsewhere i o
+IsOther i (cut_from sp d o) = IsElsewhere i o
 IsOther i s = Unit {0}
 
 -- so many values are taken from a stack, the lowest first, before those that were taken

@@ -5,6 +5,7 @@ use Rattle.std.specs.List.{list_all, list_any}
 use Rattle.regent_tree.specs.Syntax.{Expression, Expressions, Links, Name, Steps, a_link, access_expr, an_expr, at_step, call_expr, cast_expr, chain_expr, convert_expr, field_step, is_null_expr, no_expr, no_link, no_step, null_expr, number_expr, prefix_expr, space_expr, truth_expr}
 use Rattle.regent_tree.specs.declared.expression.Arithmetic.TheVariants.{Subtract}
 use Rattle.regent_tree.specs.declared.expression.Operator.TheVariants.{Compute}
+use Rattle.regent_tree.specs.declared.expression.Sign.{Sign}
 use Rattle.regent_tree.specs.declared.types.NumberTerm.{NumberTerm}
 use Rattle.regent_tree.specs.declared.types.Ref.{Ref}
 use Rattle.regent_tree.specs.declared.types.Ref.TheVariants.{Named, Wild}
@@ -14,8 +15,8 @@ use Rattle.scalar_form.specs.ScalarForm.{is_scalar_number}
 
 -- the names of regions in a task, those of partitions, those that may stand for an index, an index space or a pointer,
 -- and those among them that may stand for a pointer; the names of fields that hold indices, and those of fields that hold
--- pointers; and whether such indices, index spaces and pointers may be assigned, elements be taken as pointers, and numbers
--- be converted to indices
+-- pointers; whether such indices, index spaces and pointers may be assigned, elements be taken as pointers, and numbers
+-- be converted to indices; and whether a variable begins as a part of a partition
 pub record Marked : Type 0 where
   pub regions : List Name
   pub partitions : List Name
@@ -24,6 +25,7 @@ pub record Marked : Type 0 where
   pub index_fields : List Name
   pub pointer_fields : List Name
   pub keeps : Bool
+  pub parts : Bool
 
 abbrev pub is_among : List Name → Name → Bool
 is_among names n = list_any (λ m. bytes_eq m n) names
@@ -54,7 +56,7 @@ abbrev mutual
   gives_scalar m (number_expr z w) = true
   gives_scalar m (truth_expr b) = true
   gives_scalar m (chain_expr first rest) = links_give m (gives_scalar m first) rest
-  gives_scalar m (prefix_expr signs e) = true
+  gives_scalar m (prefix_expr signs e) = gives_scalar m e
   gives_scalar m (access_expr n no_step) = not (is_among m.indices n)
   gives_scalar m (access_expr n (at_step e (field_step f rest))) = not (is_kept_field m (last_of f rest))
   gives_scalar m (access_expr n (at_step e rest)) = false
@@ -108,6 +110,11 @@ is_pointing (null_expr t) = true
 is_pointing (cast_expr t e) = true
 is_pointing e = false
 
+-- a part of a partition whose name stands for no region, whatever stands for the colour
+abbrev pub takes_part : Marked → Expression → Bool
+takes_part m (access_expr n (at_step e no_step)) = is_among m.partitions n && not (is_among m.regions n)
+takes_part m e = false
+
 -- a partition's name that stands alone, and the difference of two
 abbrev pub is_partition_name : Marked → Expression → Bool
 is_partition_name m (access_expr n no_step) = is_among m.partitions n
@@ -142,19 +149,29 @@ goes_to_names m (r ∷ rs) = list_all (goes_to_name m) (r ∷ rs)
 abbrev pub converts_to : Marked → NumberTerm → Bool
 converts_to m t = m.keeps || is_scalar_number t
 
+-- whether prefixes may stand before an expression: one that gives a number or truth, or where one stands there, one that
+-- may count as a number
+abbrev pub has_sign : List Sign → Bool
+has_sign [] = false
+has_sign (s ∷ ss) = true
+
+abbrev pub takes_signs : Marked → List Sign → Bool → Bool
+takes_signs m signs scalar = scalar || (m.keeps && has_sign signs)
+
 -- whether a name may be assigned
 abbrev pub takes_value : Marked → Name → Bool
 takes_value m n = (m.keeps || not (is_among m.indices n)) && not (is_kept_apart m n)
 
 -- Numbers and truths, indices, index spaces and pointers, calls, elements of regions that have names and fields at points
 -- of these, fields that a name's pointer goes to, those that a field's pointer goes to, null, casts, and the colours of partitions. A region itself stands in an argument
--- alone, or is what a loop goes over; so does a part of a partition; and a prefix stands before numbers and truths.
+-- alone, or is what a loop goes over; so does a part of a partition; and a prefix stands before numbers and truths, or what may
+-- count as numbers.
 abbrev mutual
   pub is_local_expression : Marked → Expression → Bool
   is_local_expression m (number_expr z w) = true
   is_local_expression m (truth_expr b) = true
   is_local_expression m (chain_expr first rest) = is_local_expression m first && are_local_links m rest
-  is_local_expression m (prefix_expr signs e) = gives_scalar m e && is_local_expression m e
+  is_local_expression m (prefix_expr signs e) = takes_signs m signs (gives_scalar m e) && is_local_expression m e
   is_local_expression m (access_expr n no_step) = not (is_kept_apart m n)
   is_local_expression m (access_expr n (at_step e no_step)) = takes_element m n && is_local_expression m e
   is_local_expression m (access_expr n (at_step e (field_step f rest))) = is_local_expression m e && are_fields rest
@@ -177,10 +194,11 @@ abbrev mutual
   is_part m (access_expr n (at_step e no_step)) = is_among m.partitions n && is_local_expression m e
   is_part m e = false
 
-  -- an argument is a name, of a region or of anything else, a part of a partition, or such an expression
+  -- an argument is a name, of a region or of anything else, a part of a partition where no variable begins as one, or such an
+  -- expression
   pub are_local_arguments : Marked → Expressions → Bool
   are_local_arguments m no_expr = true
-  are_local_arguments m (an_expr e es) = (is_name e || (is_part m e || is_local_expression m e)) && are_local_arguments m es
+  are_local_arguments m (an_expr e es) = (is_name e || ((not m.parts && is_part m e) || is_local_expression m e)) && are_local_arguments m es
 
 abbrev pub are_local_expressions : Marked → Expressions → Bool
 are_local_expressions m no_expr = true

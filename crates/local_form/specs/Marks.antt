@@ -6,18 +6,22 @@ use Rattle.regent_tree.specs.declared.types.NumberTerm.TheVariants as number
 use Rattle.regent_tree.specs.declared.types.Param.{Param}
 use Rattle.regent_tree.specs.declared.types.TypeTerm.{TypeTerm}
 use Rattle.regent_tree.specs.declared.types.TypeTerm.TheVariants as term
-use Rattle.local_form.specs.Expressions.{Marked, gives_pointer, gives_points, gives_scalar, is_difference}
+use Rattle.local_form.specs.Expressions.{Marked, gives_pointer, gives_points, gives_scalar, is_difference, takes_part}
 
 -- ---- names that are marked
 
 abbrev pub unmarked : Marked
-unmarked = record { regions = []; partitions = []; indices = []; pointers = []; index_fields = []; pointer_fields = []; keeps = true }
+unmarked = record { regions = []; partitions = []; indices = []; pointers = []; index_fields = []; pointer_fields = []; keeps = true; parts = false }
 
 abbrev pub with_region : Name → Marked → Marked
 with_region n m = record m { regions = m.regions ++ n ∷ [] }
 
 abbrev pub with_partition : Name → Marked → Marked
 with_partition n m = record m { partitions = m.partitions ++ n ∷ [] }
+
+-- a part's name is a region's
+abbrev pub with_part : Name → Marked → Marked
+with_part n m = record m { regions = m.regions ++ n ∷ []; parts = true }
 
 abbrev pub with_index : Name → Marked → Marked
 with_index n m = record m { indices = m.indices ++ n ∷ [] }
@@ -37,12 +41,16 @@ with_either points n m = cond points (with_pointer n m) (with_index n m)
 
 -- a variable without a written type that begins with an expression
 abbrev pub marked_by_value : Name → Expression → Marked → Marked
-marked_by_value n e m = cond (is_difference m e) (with_partition n m) (cond (gives_scalar m e) m (with_either (gives_pointer m e) n m))
+marked_by_value n e m = cond (is_difference m e) (with_partition n m)
+    (cond (takes_part m e) (with_part n m) (cond (gives_scalar m e) m (with_either (gives_pointer m e) n m)))
 
 -- a variable of a written type
 abbrev pub marked_by_term : Name → TypeTerm → Marked → Marked
 marked_by_term n (term.Number (number.Index k)) m = with_index n m
 marked_by_term n (term.Pointer p) m = with_pointer n m
+marked_by_term n (term.Ispace k) m = with_index n m
+marked_by_term n (term.Region k u) m = with_region n m
+marked_by_term n (term.Partition d r c) m = with_partition n m
 marked_by_term n t m = m
 
 -- the names that statements bind, beside those that are marked before them

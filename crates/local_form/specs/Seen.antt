@@ -1,13 +1,13 @@
 -- The parts of what stands in lists, as the code sees them.
-use Rattle.std.specs.Prelude.{Bool, List, false, not, ◌&&◌, ◌||◌}
+use Rattle.std.specs.Prelude.{Bool, false, not, ◌&&◌, ◌||◌}
 use Rattle.regent_tree.specs.declared.statement.Arm.{Arm, out-Arm}
 use Rattle.regent_tree.specs.declared.statement.How.{How}
 use Rattle.regent_tree.specs.declared.statement.How.TheVariants as how
 use Rattle.regent_tree.specs.Plain.{expression_of}
 use Rattle.regent_tree.specs.PlainProgram.{block_in}
 use Rattle.regent_tree.specs.Syntax.{Expression, Name, Steps, at_step, field_step, no_step}
-use Rattle.local_form.specs.LocalForm.{fills_apart, is_local_block}
-use Rattle.local_form.specs.Expressions.{Marked, are_fields, gives_points, is_among, is_kept_apart, is_local_expression, is_name, is_part, takes_element, takes_value}
+use Rattle.local_form.specs.LocalForm.{is_local_block, keeps_pointer}
+use Rattle.local_form.specs.Expressions.{Marked, are_fields, gives_points, gives_scalar, is_among, is_difference, is_kept_apart, is_local_expression, is_name, is_part, takes_element, takes_value}
 use Rattle.local_form.specs.Marks.{with_either}
 
 abbrev pub is_local_arm : Marked → Arm → Bool
@@ -15,15 +15,16 @@ is_local_arm m a =
     is_local_expression m (expression_of (out-Arm a).test) && is_local_block m (block_in (out-Arm a).body.items)
 
 abbrev pub is_local_argument : Marked → Expression → Bool
-is_local_argument m e = is_name e || (is_part m e || is_local_expression m e)
+is_local_argument m e = is_name e || ((not m.parts && is_part m e) || is_local_expression m e)
 
 -- what a loop takes
 abbrev pub marked_by_loop : Name → Expression → Marked → Marked
 marked_by_loop n domain m = with_either (gives_points m domain) n m
 
--- with what fields are filled
-abbrev pub is_local_filling : Marked → List Name → Expression → Bool
-is_local_filling m fields e = fills_apart m fields e && is_local_expression m e
+-- with what a variable begins that is no part
+abbrev pub begins_otherwise : Marked → Name → Expression → Bool
+begins_otherwise m n e = (gives_scalar m e || is_among m.indices n)
+    && (keeps_pointer m n e && ((is_difference m e && is_among m.partitions n) || is_local_expression m e))
 
 -- ---- accesses
 

@@ -3,15 +3,16 @@
 ghost use Rattle.std.specs.Prelude.{◌≡◌};
 ghost use Rattle.regent_tree.specs.Plain.{expression_of, expressions_in, links_in, steps_in};
 ghost use Rattle.regent_tree.specs.Syntax.{access_expr};
-ghost use Rattle.local_form.specs.Expressions.{are_local_arguments, are_local_expressions, gives_points};
+ghost use Rattle.local_form.specs.Expressions.{are_local_arguments, are_local_expressions, gives_points, takes_part};
 ghost use Rattle.local_form.specs.Expressions.{are_local_links, is_local_expression, is_name, is_part, is_region_name};
+ghost use Rattle.local_form.specs.Expressions.{gives_scalar, takes_signs};
 ghost use Rattle.local_form.specs.Seen.{goes_on, is_behind, is_behind_read, is_beside, is_local_argument};
 
 use crate::giving::gives_scalar;
 use crate::marked::Marked;
 use crate::steps::are_fields;
 use crate::terms::goes_to_names;
-use regent_tree::{Expr, Link, Name, Step};
+use regent_tree::{Expr, Link, Name, Sign, Step};
 
 /// Whether a task may have an expression: numbers, truths, indices, index spaces and pointers, elements of regions, fields
 /// of these and of what pointers go to, null, casts, and the colours of partitions.
@@ -24,8 +25,8 @@ pub fn is_local_expression(marked: &Marked<'_>, e: &Expr) -> bool
         Expr::Chain { first, rest } => {
             is_local_expression(marked, first) && are_local_links(marked, rest.as_slice())
         }
-        Expr::Prefix { inner, .. } => {
-            gives_scalar(marked, inner) && is_local_expression(marked, inner)
+        Expr::Prefix { signs, inner } => {
+            is_signed(marked, signs.as_slice(), inner) && is_local_expression(marked, inner)
         }
         Expr::Access { name, steps } => is_local_access(marked, name, steps.as_slice()),
         Expr::Call { args, .. } => are_local_arguments(marked, args.as_slice()),
@@ -39,6 +40,14 @@ pub fn is_local_expression(marked: &Marked<'_>, e: &Expr) -> bool
             goes_to_names(marked, pointer.regions.as_slice()) && is_local_expression(marked, inner)
         }
     }
+}
+
+/// Whether prefixes may stand before an expression: before a number or truth, or before what may count as a number.
+fn is_signed(marked: &Marked<'_>, signs: &[Sign], inner: &Expr) -> bool
+    ensures { result ≡ takes_signs
+        marked.now signs.now (gives_scalar marked.now (expression_of inner.now)) }
+{
+    gives_scalar(marked, inner) || marked.keeps_signs(signs)
 }
 
 /// Whether an access is a field of what a name's pointer goes to, with further ones behind it.
@@ -160,6 +169,27 @@ pub fn gives_points(marked: &Marked<'_>, e: &Expr) -> bool
     }
 }
 
+/// Whether an access takes an element of a partition's name, which stands for no region, and nothing behind it.
+fn names_element(marked: &Marked<'_>, name: &Name, steps: &[Step]) -> bool
+    ensures { result ≡ takes_part marked.now (access_expr name.now (steps_in steps.now)) }
+{
+    match steps {
+        [Step::At(_)] => marked.is_partition(name) && !marked.is_region(name),
+        [] | [Step::Field(_), ..] => false,
+        [Step::At(_), Step::At(_), ..] | [Step::At(_), Step::Field(_), ..] => false,
+    }
+}
+
+/// Whether an expression takes a part of a partition that has a name, whatever stands for the colour.
+pub fn takes_part(marked: &Marked<'_>, e: &Expr) -> bool
+    ensures { result ≡ takes_part marked.now (expression_of e.now) }
+{
+    match e {
+        Expr::Access { name, steps } => names_element(marked, name, steps.as_slice()),
+        _ => false,
+    }
+}
+
 /// Whether an access is a part of a partition.
 #[cycle(expression)]
 fn names_part(marked: &Marked<'_>, name: &Name, steps: &[Step]) -> bool
@@ -182,12 +212,15 @@ pub fn is_part(marked: &Marked<'_>, e: &Expr) -> bool
     }
 }
 
-/// Whether an argument is a name, a region's or any other, a part of a partition, or such an expression.
+/// Whether an argument is a name, a region's or any other, a part of a partition where no variable begins as one, or such an
+/// expression.
 #[cycle(expression)]
 fn is_local_argument(marked: &Marked<'_>, arg: &Expr) -> bool
     ensures { result ≡ is_local_argument marked.now (expression_of arg.now) }
 {
-    is_name(arg) || is_part(marked, arg) || is_local_expression(marked, arg)
+    is_name(arg)
+        || (!marked.has_parts() && is_part(marked, arg))
+        || is_local_expression(marked, arg)
 }
 
 /// Whether such are all arguments of a call.

@@ -2,19 +2,21 @@
 
 ghost use Rattle.std.specs.Prelude.{◌≡◌, ◌&&◌, List, OnOk, bytes_eq, map, ℕ};
 ghost use Rattle.local_form.specs.Expressions.{converts_to, is_among, is_kept_apart, is_kept_field};
-ghost use Rattle.local_form.specs.Expressions.{takes_element, takes_value};
+ghost use Rattle.local_form.specs.Expressions.{has_sign, takes_element, takes_value};
 ghost use Rattle.local_form.specs.Marks.{unmarked};
-ghost use Rattle.local_form.specs.Marks.{with_either, with_index, with_index_field, with_partition};
+ghost use Rattle.local_form.specs.Marks.{with_either, with_index, with_index_field, with_part};
+ghost use Rattle.local_form.specs.Marks.{with_partition};
 ghost use Rattle.local_form.specs.Marks.{with_pointer, with_pointer_field, with_region};
 
-use regent_tree::{Name, NumberTerm};
+use regent_tree::{Name, NumberTerm, Sign};
 use scalar_form::is_scalar_number;
 use std::alloc::{AllocError, Global};
 use std::marker::Model;
 
 /// The names of regions in a task, those of partitions, those that may stand for an index, an index space or a pointer,
 /// and those among them that may stand for a pointer; the names of fields that hold indices, and those of fields that hold
-/// pointers; and whether such indices and pointers are kept: assigned, taken of elements, and converted from numbers.
+/// pointers; whether such indices and pointers are kept: assigned, taken of elements, and converted from numbers; and
+/// whether a variable begins as a part of a partition.
 #[derive(Drop)]
 pub struct Marked<'t> {
     regions: Vec<&'t Name>,
@@ -24,6 +26,7 @@ pub struct Marked<'t> {
     index_fields: Vec<&'t Name>,
     pointer_fields: Vec<&'t Name>,
     keeps: bool,
+    parts: bool,
 }
 
 impl<'t> Model for Marked<'t> {
@@ -40,6 +43,7 @@ impl<'t> Model for Marked<'t> {
       index_fields = map (λ n. n.now) s.index_fields.items;
       pointer_fields = map (λ n. n.now) s.pointer_fields.items;
       keeps = s.keeps;
+      parts = s.parts;
     } };
 }
 
@@ -47,6 +51,16 @@ fn is_among(names: &[&Name], name: &Name) -> bool
     ensures { result ≡ is_among (map (λ n. n.now) names.now) name.now }
 {
     names.iter().any(|known| **known == *name)
+}
+
+/// Whether there is some prefix.
+fn has_sign(signs: &[Sign]) -> bool
+    ensures { result ≡ has_sign signs.now }
+{
+    match signs {
+        [] => false,
+        [_, ..] => true,
+    }
 }
 
 impl<'t> Marked<'t> {
@@ -62,6 +76,7 @@ impl<'t> Marked<'t> {
             index_fields: Vec::new(alloc),
             pointer_fields: Vec::new(alloc),
             keeps: true,
+            parts: false,
         }
     }
 
@@ -112,11 +127,25 @@ impl<'t> Marked<'t> {
         self.keeps || is_scalar_number(to)
     }
 
+    /// Whether some of these prefixes stand before what may count as a number, where such is kept.
+    pub fn keeps_signs(&self, signs: &[Sign]) -> bool
+        ensures { result ≡ (self.now.keeps && has_sign signs.now) }
+    {
+        self.keeps && has_sign(signs)
+    }
+
     /// Whether a name may stand for an index that is kept.
     pub fn keeps_index(&self, name: &Name) -> bool
         ensures { result ≡ (self.now.keeps && is_among self.now.indices name.now) }
     {
         self.keeps && self.is_index(name)
+    }
+
+    /// Whether a name may stand for a region, where pointers are kept.
+    pub fn keeps_region(&self, name: &Name) -> bool
+        ensures { result ≡ (self.now.keeps && is_among self.now.regions name.now) }
+    {
+        self.keeps && self.is_region(name)
     }
 
     /// Whether a name may stand for a partition, which is kept.
@@ -133,7 +162,7 @@ impl<'t> Marked<'t> {
     }
 
     /// Whether a field of that name holds indices, in some field space.
-    pub fn is_index_field(&self, name: &Name) -> bool
+    fn is_index_field(&self, name: &Name) -> bool
         ensures { result ≡ is_among self.now.index_fields name.now }
     {
         is_among(self.index_fields.as_slice(), name)
@@ -153,10 +182,33 @@ impl<'t> Marked<'t> {
         self.is_index_field(name) || self.is_pointer_field(name)
     }
 
+    /// Whether a variable begins as a part of a partition.
+    pub fn has_parts(&self) -> bool
+        ensures { result ≡ self.now.parts }
+    {
+        self.parts
+    }
+
+    /// Whether a name stands for a region, among which some begin as parts.
+    pub fn is_part_region(&self, name: &Name) -> bool
+        ensures { result ≡ (is_among self.now.regions name.now && self.now.parts) }
+    {
+        self.is_region(name) && self.parts
+    }
+
     pub fn add_region(&mut self, name: &'t Name) -> Result<(), AllocError>
         ensures { OnOk result (self.new ≡ with_region name.now self.old) }
     {
         self.regions.push(name)?;
+        Ok(())
+    }
+
+    /// A part's name is a region's.
+    pub fn add_part(&mut self, name: &'t Name) -> Result<(), AllocError>
+        ensures { OnOk result (self.new ≡ with_part name.now self.old) }
+    {
+        self.regions.push(name)?;
+        self.parts = true;
         Ok(())
     }
 

@@ -9,20 +9,22 @@ ghost use Rattle.local_form.specs.Marks.{marked_by, marked_by_arms, marked_by_te
 ghost use Rattle.local_form.specs.Seen.{marked_by_loop};
 
 use crate::differences::is_difference;
-use crate::expressions::gives_points;
+use crate::expressions::{gives_points, takes_part};
 use crate::giving::{gives_pointer, gives_scalar};
 use crate::marked::Marked;
 use regent_tree::{Arm, Expr, Init, Name, NumberTerm, Stmt, TypeTerm, What};
 use std::alloc::AllocError;
 
-/// Marks a variable that begins with an expression, where this is a difference of partitions, or may give an index, an
-/// index space or a pointer.
+/// Marks a variable that begins with an expression, where this is a difference of partitions or a part of one, or may give
+/// an index, an index space or a pointer.
 fn mark_value<'t>(marked: &mut Marked<'t>, name: &'t Name, value: &Expr) -> Result<(), AllocError>
     ensures { OnOk result
         (marked.new ≡ marked_by_value name.now (expression_of value.now) marked.old) }
 {
     if is_difference(marked, value) {
         marked.add_partition(name)
+    } else if takes_part(marked, value) {
+        marked.add_part(name)
     } else if gives_scalar(marked, value) {
         Ok(())
     } else {
@@ -38,13 +40,15 @@ fn mark_loop<'t>(marked: &mut Marked<'t>, name: &'t Name, domain: &Expr) -> Resu
     marked.add_either(gives_points(marked, domain), name)
 }
 
-/// Marks a variable of a written type, where this is an index's or a pointer's.
+/// Marks a variable of a written type, where this is an index's, an index space's, a pointer's, a region's or a partition's.
 fn mark_term<'t>(marked: &mut Marked<'t>, name: &'t Name, term: &TypeTerm) -> Result<(), AllocError>
     ensures { OnOk result (marked.new ≡ marked_by_term name.now term.now marked.old) }
 {
     match term {
-        TypeTerm::Number(NumberTerm::Index(_)) => marked.add_index(name),
+        TypeTerm::Number(NumberTerm::Index(_)) | TypeTerm::Ispace(_) => marked.add_index(name),
         TypeTerm::Pointer(_) => marked.add_pointer(name),
+        TypeTerm::Region { .. } => marked.add_region(name),
+        TypeTerm::Partition { .. } => marked.add_partition(name),
         _ => Ok(()),
     }
 }

@@ -2,16 +2,16 @@
 
 ghost use Rattle.std.specs.Prelude.{◌≡◌, IfOk, OnOk, map};
 ghost use Rattle.regent_tree.specs.PlainProgram.{item_of, item_tree_of, task_of, tree_of};
-ghost use Rattle.local_form.specs.LocalForm.{all_go_back, are_local_params, is_local_item, is_local_param};
+ghost use Rattle.local_form.specs.LocalForm.{are_local_params, is_local_item, is_local_param};
 ghost use Rattle.local_form.specs.Marks.{is_index_or_space, is_partition_term};
 ghost use Rattle.local_form.specs.LocalForm.{is_local_program, is_local_task, is_local_with};
-ghost use Rattle.local_form.specs.Marks.{is_region_term, marked_by_task, marked_param, marked_params, unmarked};
+ghost use Rattle.local_form.specs.Marks.{is_region_term, marked_by_task, marked_param, marked_params};
 
 use crate::fields::{are_local_fields, is_pointer_term, mark_items};
 use crate::marked::Marked;
 use crate::marking::mark_block;
 use crate::statements::is_local_block;
-use crate::terms::{goes_back, is_taken_term};
+use crate::terms::is_taken_term;
 use regent_tree::{Item, ItemKind, NumberTerm, Param, Program, Task, TypeTerm};
 use scalar_form::is_scalar_if_said;
 use std::alloc::{AllocError, Global};
@@ -91,20 +91,6 @@ fn mark_params<'t>(marked: &mut Marked<'t>, params: &'t [Param]) -> Result<(), A
     Ok(())
 }
 
-/// Whether the regions of each pointer and each partition among parameters are named before it.
-fn all_go_back(alloc: Global, params: &[Param]) -> Result<bool, AllocError>
-    ensures { IfOk result (λ is. is ≡ all_go_back unmarked params.now) }
-{
-    let mut before = Marked::new(alloc);
-    for param in params {
-        if !goes_back(&before, &param.term) {
-            return Ok(false);
-        }
-        mark_param(&mut before, param)?;
-    }
-    Ok(true)
-}
-
 /// What a task of a program marks.
 fn marks<'t>(alloc: Global, items: &'t [Item], task: &'t Task) -> Result<Marked<'t>, AllocError>
     ensures { IfOk result (λ m. m ≡ marked_by_task (map item_tree_of items.now) (task_of task.now)) }
@@ -130,9 +116,6 @@ fn is_local_with(marked: &Marked<'_>, task: &Task) -> bool
 fn is_local_task(alloc: Global, items: &[Item], task: &Task) -> Result<bool, AllocError>
     ensures { IfOk result (λ is. is ≡ is_local_task (map item_tree_of items.now) (task_of task.now)) }
 {
-    if !all_go_back(alloc, task.params.as_slice())? {
-        return Ok(false);
-    }
     let marked = marks(alloc, items, task)?;
     Ok(is_local_with(&marked, task))
 }

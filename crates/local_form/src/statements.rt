@@ -1,25 +1,23 @@
 //! Statements of such tasks.
 
 ghost use Rattle.std.specs.Prelude.{◌≡◌};
-ghost use Rattle.std.specs.List.{list_any};
 ghost use Rattle.std.specs.Option.{option_map};
 ghost use Rattle.regent_tree.specs.Plain.{expression_of, initializer_of, steps_in};
 ghost use Rattle.regent_tree.specs.PlainProgram.{arms_in, block_in, form_of};
 ghost use Rattle.regent_tree.specs.Syntax.{assign_form, return_form, var_form};
 ghost use Rattle.local_form.specs.LocalForm.{are_local_arms, is_local_block, is_local_domain, is_local_form};
-ghost use Rattle.local_form.specs.LocalForm.{keeps_pointer};
-ghost use Rattle.local_form.specs.Expressions.{is_among};
-ghost use Rattle.local_form.specs.Seen.{assigns_beside, is_local_arm, is_local_filling};
+ghost use Rattle.local_form.specs.LocalForm.{begins_part, keeps_pointer};
+ghost use Rattle.local_form.specs.Seen.{assigns_beside, begins_otherwise, is_local_arm};
 
 use crate::differences::is_difference;
 use crate::expressions::{
     are_local_arguments, are_local_expressions, is_behind, is_local_expression, is_part,
-    is_region_name,
+    is_region_name, takes_part,
 };
 use crate::giving::{gives_pointer, gives_scalar, is_pointing};
 use crate::marked::Marked;
 use crate::steps::are_fields;
-use crate::terms::is_kept_term;
+use crate::terms::{is_kept_term, is_said_term};
 use regent_tree::{Arm, Expr, How, Init, Name, Step, Stmt, TypeTerm, What};
 
 /// Whether a variable that begins with what may be a pointer is a copy of a name or an element, and known as such.
@@ -29,12 +27,29 @@ fn keeps_pointer(marked: &Marked<'_>, name: &Name, value: &Expr) -> bool
     !gives_pointer(marked, value) || (is_pointing(value) && marked.is_pointer(name))
 }
 
+/// Whether a variable begins as a part of a partition that has a name, and is known as a region.
+fn begins_part(marked: &Marked<'_>, name: &Name, value: &Expr) -> bool
+    ensures { result ≡ begins_part marked.now name.now (expression_of value.now) }
+{
+    takes_part(marked, value) && is_part(marked, value) && marked.is_part_region(name)
+}
+
 /// Whether a loop goes over a region that has a name, or over a part, where it takes pointers, or over an index space.
 fn is_local_domain(marked: &Marked<'_>, name: &Name, domain: &Expr) -> bool
     ensures { result ≡ is_local_domain marked.now name.now (expression_of domain.now) }
 {
     ((is_region_name(marked, domain) || is_part(marked, domain)) && marked.is_pointer(name))
         || is_local_expression(marked, domain)
+}
+
+/// Whether a variable begins with an expression that is no part, and is known as what it is.
+fn begins_otherwise(marked: &Marked<'_>, name: &Name, value: &Expr) -> bool
+    ensures { result ≡ begins_otherwise marked.now name.now (expression_of value.now) }
+{
+    (gives_scalar(marked, value) || marked.is_index(name))
+        && keeps_pointer(marked, name, value)
+        && ((is_difference(marked, value) && marked.is_partition(name))
+            || is_local_expression(marked, value))
 }
 
 /// Whether a variable is a number or truth, an index, an index space, a pointer, a region or a partition, each known as
@@ -52,23 +67,22 @@ fn is_local_variable(
         (None, None) => true,
         (Some(term), None) => is_kept_term(marked, name, term),
         (Some(term), Some(Init::Plain(value))) => {
-            is_kept_term(marked, name, term) && is_local_expression(marked, value)
+            is_said_term(marked, name, term) && is_local_expression(marked, value)
         }
         (None, Some(Init::Plain(value))) => {
-            (gives_scalar(marked, value) || marked.is_index(name))
-                && keeps_pointer(marked, name, value)
-                && ((is_difference(marked, value) && marked.is_partition(name))
-                    || is_local_expression(marked, value))
+            begins_part(marked, name, value) || begins_otherwise(marked, name, value)
         }
         (None, Some(Init::Region { space, .. })) => {
             marked.is_region(name) && is_local_expression(marked, space)
         }
-        (None, Some(Init::Equal { colours, .. } | Init::ByField { colours, .. })) => {
+        (Some(_), Some(Init::Region { space, .. })) => {
+            marked.keeps_region(name) && is_local_expression(marked, space)
+        }
+        (_, Some(Init::Equal { colours, .. } | Init::ByField { colours, .. })) => {
             marked.is_partition(name) && is_local_expression(marked, colours)
         }
-        (None, Some(Init::Image { .. } | Init::Preimage { .. })) => marked.is_partition(name),
-        (None, Some(Init::Both { .. } | Init::Either { .. })) => marked.is_partition(name),
-        _ => false,
+        (_, Some(Init::Image { .. } | Init::Preimage { .. })) => marked.is_partition(name),
+        (_, Some(Init::Both { .. } | Init::Either { .. })) => marked.is_partition(name),
     }
 }
 
@@ -109,21 +123,6 @@ fn is_local_assignment(
 {
     assigns_beside(marked, target, steps, how, value)
         || (is_behind(marked, target, steps) && is_local_expression(marked, value))
-}
-
-/// Whether one of these fields may hold indices.
-fn hold_indices(marked: &Marked<'_>, fields: &[Name]) -> bool
-    ensures { result ≡ list_any (is_among marked.now.index_fields) fields.now }
-{
-    fields.iter().any(|field| marked.is_index_field(field))
-}
-
-/// Whether fields may be filled with a value, which is no pointer where they may hold indices.
-fn is_local_filling(marked: &Marked<'_>, fields: &[Name], value: &Expr) -> bool
-    ensures { result ≡ is_local_filling marked.now fields.now (expression_of value.now) }
-{
-    (!gives_pointer(marked, value) || !hold_indices(marked, fields))
-        && is_local_expression(marked, value)
 }
 
 /// Whether a value that may be left out is such an expression.
@@ -169,7 +168,7 @@ fn is_local_form(marked: &Marked<'_>, what: &What) -> bool
                 && is_local_block(marked, body.as_slice())
         }
         What::Do { body } => is_local_block(marked, body.as_slice()),
-        What::Fill { fields, value, .. } => is_local_filling(marked, fields.as_slice(), value),
+        What::Fill { value, .. } => is_local_expression(marked, value),
         What::Assert { test } => is_local_expression(marked, test),
         What::Print { args, .. } => are_local_expressions(marked, args.as_slice()),
         What::Call { args, .. } => are_local_arguments(marked, args.as_slice()),

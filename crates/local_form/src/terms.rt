@@ -1,7 +1,7 @@
 //! Written types of pointers, variables and parameters.
 
 ghost use Rattle.std.specs.Prelude.{◌≡◌};
-ghost use Rattle.local_form.specs.LocalForm.{goes_back, is_kept_term, is_taken_term};
+ghost use Rattle.local_form.specs.LocalForm.{is_kept_term, is_said_term, is_taken_term};
 ghost use Rattle.local_form.specs.Expressions.{goes_to_name, goes_to_names};
 
 use crate::marked::Marked;
@@ -45,6 +45,16 @@ pub fn is_kept_term(marked: &Marked<'_>, name: &Name, term: &TypeTerm) -> bool
     }
 }
 
+/// Whether a variable that begins with an expression may: one of these, or an index space.
+pub fn is_said_term(marked: &Marked<'_>, name: &Name, term: &TypeTerm) -> bool
+    ensures { result ≡ is_said_term marked.now name.now term.now }
+{
+    match term {
+        TypeTerm::Ispace(_) => marked.keeps_index(name),
+        _ => is_kept_term(marked, name, term),
+    }
+}
+
 /// Whether a parameter may have a type: a number, a truth, a region, an index, an index space, a pointer into such regions, or
 /// a partition.
 pub fn is_taken_term(marked: &Marked<'_>, name: &Name, term: &TypeTerm) -> bool
@@ -52,19 +62,7 @@ pub fn is_taken_term(marked: &Marked<'_>, name: &Name, term: &TypeTerm) -> bool
 {
     match term {
         TypeTerm::Region { .. } => true,
-        TypeTerm::Ispace(_) => marked.keeps_index(name),
         TypeTerm::Partition { .. } => marked.keeps_partition(name),
-        _ => is_kept_term(marked, name, term),
-    }
-}
-
-/// Whether the regions of a pointer's type have such names, and that of a partition's.
-pub fn goes_back(marked: &Marked<'_>, term: &TypeTerm) -> bool
-    ensures { result ≡ goes_back marked.now term.now }
-{
-    match term {
-        TypeTerm::Pointer(pointer) => goes_to_names(marked, pointer.regions.as_slice()),
-        TypeTerm::Partition { region, .. } => marked.is_region(region),
-        _ => true,
+        _ => is_said_term(marked, name, term),
     }
 }

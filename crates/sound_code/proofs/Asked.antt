@@ -45,11 +45,11 @@ pub record Known (way : Way) (g : Program) (tree : Tree) : Type 0 where
   pub begins : (k : ℕ) (u : TaskTree) → slice_get (tasks_of tree) k ≡ Some u → g.marks k 0 ≡ opening_mark (other way u) tree u
 
 -- No regions are handed over; or, by the rules, those that the task made, and those that it took, by what its code needs
--- and what its clauses tell of them.
+-- and what its clauses tell of them; none of them began as a part.
 pub data Hands (forms : Forms) (t : TaskCode) (way : Way) (tree : Tree) : Type 0 where
   hands_none : forms.takes ≡ None → Hands forms t way tree
   hands_taken : (task : TaskTree) (y : Taking) → way ≡ by_rules task → forms.takes ≡ Some y → y.params ≡ t.params → y.needs ≡ t.needs →
-      y.within ≡ pairs_in (scope_of tree task).known → Hands forms t way tree
+      y.within ≡ pairs_in (scope_of tree task).known → ((i : ℕ) → y.above i ≡ None) → Hands forms t way tree
 
 -- a mark is ready for names that are the same
 pub same_names : (way : Way) (params : ℕ) (bs cs : List Bound) (m : Mark) → bs ≡ cs → Ready way params bs m → Ready way params cs m

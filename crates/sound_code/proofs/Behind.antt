@@ -1,7 +1,9 @@
 -- What is known where a task is looked at by the rules is so behind each statement.
-use Rattle.std.proofs.Common.{◌≡◌, ℕ, List, [], ◌++◌, ◌&&◌, false, None, Some, refl, ⊎_elim, true}
+use Rattle.std.proofs.Common.{◌≡◌, ℕ, Bool, List, [], ◌∷◌, ◌++◌, ◌&&◌, false, None, Some, refl, subst, sym, ⊎_elim, true}
 use Rattle.regent_tree.specs.Scopes.{knowing, known_of_type, Scope, with_name}
+use Rattle.regent_tree.specs.declared.facts.Known.TheVariants.{Made}
 use Rattle.regent_tree.specs.declared.typing.StaticType.{StaticType}
+use Rattle.regent_tree.specs.declared.typing.StaticType.TheVariants.{Partition as partition_type}
 use Rattle.regent_tree.specs.declared.expression.Arithmetic.TheVariants.{Subtract}
 use Rattle.regent_tree.specs.declared.expression.Operator.TheVariants.{Compute}
 use Rattle.regent_tree.specs.Syntax.{a_link, access_expr, chain_expr, Expression, Name, no_link, no_step, plain_initializer, region_initializer, both_initializer, by_field_initializer, either_initializer, equal_initializer, image_initializer, preimage_initializer, a_statement, Form, var_form, if_form, while_form, for_in_form, for_to_form, do_form, fill_form, call_form, assert_form, print_form, assign_form, return_form, Block, no_statement, then_statement, Arms, no_arm, an_arm, Otherwise, no_else, else_block}
@@ -12,13 +14,14 @@ use Rattle.code_rules.specs.Statements.{after_arm, after_arms, after_form, loopi
 use Rattle.code_laws.specs.Simple.{a_partition_type, IsPartition, IsInteger, an_integer, IsSimple, simple_integer, number_index, number_integer, two_integers, two_truths}
 use Rattle.check_laws.specs.SoundScopes.{Falls}
 use Rattle.code_laws.specs.Steps.{Forms}
-use Rattle.code_laws.specs.Typed.{IsDifference, IsKeepable, IsTyped, IsTypedForm, AreTypedArms, IsTypedElse, IsTypedBlock}
+use Rattle.code_laws.specs.Typed.{IsDifference, IsIndexed, IsKeepable, IsTyped, IsTypedForm, AreTypedArms, IsTypedElse, IsTypedBlock}
 use Rattle.code_laws.proofs.Wider.{beginning}
-use Rattle.code_laws.specs.Pointers.{a_pointer_type, Begins, begins_plain, begins_pointer, fills_alike, fills_index, into_index, into_plain, into_space}
+use Rattle.code_laws.specs.Pointers.{a_pointer_type, Begins, begins_plain, begins_pointer, fills_alike, fills_index, into_index, into_plain, into_space, IsLike}
 use Rattle.regent_tree.specs.declared.typing.Bound.{Bound}
 use Rattle.sound_code.specs.Ways.{Way}
-use Rattle.sound_code.specs.WholeTasks.{is_value, are_whole_arms, is_whole_block, is_whole_else, is_whole_expression, is_whole_form}
+use Rattle.sound_code.proofs.WholeTasks.{is_value, are_whole_arms, is_whole_block, is_whole_else, is_whole_expression, is_whole_form}
 use Rattle.sound_code.proofs.Wholes.{Asks, asks_first, asks_second, begun_whole, begun_worth, said_worth, worth_simple, zero_worth}
+use Rattle.sound_code.proofs.Liking.{like_cut, like_root}
 use Rattle.sound_code.proofs.Taken.{looped_parts, taken_worth}
 use Rattle.sound_code.proofs.Grounds.{Ground, ground_block, ground_cut, ground_declared, ground_looping, ground_plain, ground_root, ground_rounds, ground_said}
 
@@ -51,12 +54,19 @@ module _ (forms : Forms) (t : TaskCode) (way : Way) where
       minus_by w n (bound w p).static_type (bound w q).static_type d.first.partition d.first.numbers g
   minus_ground w n _ d g = absurd d
 
+  -- a partition of a written type
+  cut_ground : (w : Where) (n : Name) (u : StaticType) (d : Bool) (r : ℕ) → IsLike u (partition_type d r w.scope.next) → Falls w.scope.next w.scope.names →
+      On w w.scope → On w (knowing (with_name w.scope n u false) (known_of_type u))
+  cut_ground w n u d r like falls g =
+      let is = like_cut u d r w.scope.next like in
+      subst (λ v. On w (knowing (with_name w.scope n v false) (known_of_type v))) (sym is.is) (ground_cut t w.tree w.params way w.scope n is.flag r falls g)
+
   mutual
     pub after_form_ground : (w : Where) (form : Form) → IsTypedForm forms w form → Asks forms.keeps (is_whole_form true w form) → On w w.scope → On w (scope_after w.tree w.scope form)
     after_form_ground w (var_form n None (Some (plain_initializer e))) f whole g =
         ⊎_elim (λ (begun : (IsKeepable forms.keeps w e × IsTyped forms w e) × Asks forms.keeps (is_value true (owned w.scope.next (typed w e)) && is_whole_expression true w e)).
         ground_plain t w.tree w.params way w.scope n (typed w e) (begun_worth forms.keeps w e w.scope.next begun.0.0 (asks_first _ _ _ begun.1)) g)
-        (λ d. minus_ground w n e d.1 g) (begun_whole forms.keeps w e _ (IsTyped forms w e) f whole)
+        (λ d. minus_ground w n e d.1 g) (begun_whole forms.keeps forms.takes w e (is_whole_expression true w e) (IsTyped forms w e) (IsIndexed forms w e) f whole)
     after_form_ground w (var_form n None (Some (region_initializer e u))) f whole g = ground_root t w.tree w.params way w.scope n _ _ _ g
     after_form_ground w (var_form n (Some term) (Some (plain_initializer e))) f whole g =
         let u = var_type w.tree w.scope (Some term) (Some (plain_initializer e)) in
@@ -92,6 +102,16 @@ module _ (forms : Forms) (t : TaskCode) (way : Way) where
     after_form_ground w (var_form n None (Some (preimage_initializer a p r l))) f whole g = ground_cut t w.tree w.params way w.scope n _ _ f.1.numbers g
     after_form_ground w (var_form n None (Some (both_initializer p q))) f whole g = ground_cut t w.tree w.params way w.scope n _ _ f.1.first.numbers g
     after_form_ground w (var_form n None (Some (either_initializer p q))) f whole g = ground_cut t w.tree w.params way w.scope n _ _ f.1.first.numbers g
+    after_form_ground w (var_form n (Some said) (Some (region_initializer e u))) f whole g =
+        let like = like_root _ _ _ _ _ f.1 in
+        subst (λ v. On w (knowing (with_name w.scope n v false) (Made w.scope.next ∷ known_of_type v))) (sym like.is)
+        (ground_root t w.tree w.params way w.scope n like.kind _ like.args g)
+    after_form_ground w (var_form n (Some said) (Some (equal_initializer r e))) f whole g = cut_ground w n _ _ _ f.1 f.2.3.numbers g
+    after_form_ground w (var_form n (Some said) (Some (by_field_initializer r l e))) f whole g = cut_ground w n _ _ _ f.1 f.2.3.parent.numbers g
+    after_form_ground w (var_form n (Some said) (Some (image_initializer a p r l))) f whole g = cut_ground w n _ _ _ f.1 f.2.1.numbers g
+    after_form_ground w (var_form n (Some said) (Some (preimage_initializer a p r l))) f whole g = cut_ground w n _ _ _ f.1 f.2.1.numbers g
+    after_form_ground w (var_form n (Some said) (Some (both_initializer p q))) f whole g = cut_ground w n _ _ _ f.1 f.2.1.first.numbers g
+    after_form_ground w (var_form n (Some said) (Some (either_initializer p q))) f whole g = cut_ground w n _ _ _ f.1 f.2.1.first.numbers g
     after_form_ground w _ f whole g = absurd f
 
     pub after_block_ground : (w : Where) (b : Block) → IsTypedBlock forms w b → Asks forms.keeps (is_whole_block true w b) → On w w.scope →

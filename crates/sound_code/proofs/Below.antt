@@ -11,12 +11,13 @@ use Rattle.task_code.specs.declared.code.TaskCode.{TaskCode}
 use Rattle.machine_terms.specs.declared.value.Value.{Value}
 use Rattle.machine_terms.specs.Pointers.{region_in}
 use Rattle.code_rules.specs.Slots.{Where}
-use Rattle.code_laws.specs.Arguments.{IsGivenPart, LiesBelow}
+use Rattle.code_laws.specs.Arguments.{HasBegunWithin, IsGivenPart, LiesBelow}
 use Rattle.code_laws.specs.Simple.{a_region_type, IsRegion, term_in}
 use Rattle.code_laws.specs.Steps.{Forms, Taking}
 use Rattle.code_laws.specs.Taking.{known_of_pairs, pairs_in}
 use Rattle.fit_rules.specs.Shapes.{World}
 use Rattle.fit_rules.specs.Marks.{Holds, in_slot, lies, Mark, parted, stacked, Suits}
+use Rattle.std.proofs.lemmas.Option.{none-some}
 use Rattle.fit_rules.specs.Fits.{Program}
 use Rattle.sound_code.specs.Named.{slot_at}
 use Rattle.sound_code.specs.Ways.{by_rules, opening_facts, Way}
@@ -68,13 +69,21 @@ module _ (g : Program) (t : TaskCode) (k slots : ℕ) (forms : Forms) (way : Way
   of_part task y by takes params within a b _ _ (a_region_type c sp args (term.Name i)) (a_region_type d sq brgs (term.Child p f)) pa pb part x vs st s r e = absurd pb
 
   pub lies_below : (a b : Bound) → IsRegion a.static_type → IsRegion b.static_type → OfType w.params a.place a.static_type → OfType w.params b.place b.static_type →
-      LiesBelow forms.takes a b → (x : World) (vs st : List Value) → Suits x t.params (stacked m []) vs st →
+      LiesBelow forms.takes w a b → (x : World) (vs st : List Value) → Suits x t.params (stacked m []) vs st →
       Holds (lies (in_slot (slot_at w.params a.place)) (in_slot (slot_at w.params b.place))) vs
   lies_below a b ra rb pa pb (inl same) x vs st s =
       subst (λ y. Holds (lies (in_slot (slot_at w.params a.place)) (in_slot (slot_at w.params y))) vs) same (lies_itself vs (slot_at w.params a.place))
-  lies_below a b ra rb pa pb (inr part) x vs st s = of asked.hands
+  lies_below a b ra rb pa pb (inr (inl part)) x vs st s = of asked.hands
     where
       of : Hands forms t way w.tree → Holds (lies (in_slot (slot_at w.params a.place)) (in_slot (slot_at w.params b.place))) vs
       of (hands_none none) = absurd (subst (λ o. IsGivenPart o (term_in a.static_type) (term_in b.static_type)) none part)
-      of (hands_taken task y by takes params needs within) =
+      of (hands_taken task y by takes params needs within apart) =
           of_part task y by takes params within a.place b.place a.static_type b.static_type ra rb pa pb part x vs st s
+  -- no region of such a task began as a part
+  lies_below a b ra rb pa pb (inr (inr began)) x vs st s = of asked.hands
+    where
+      of : Hands forms t way w.tree → Holds (lies (in_slot (slot_at w.params a.place)) (in_slot (slot_at w.params b.place))) vs
+      of (hands_none none) = absurd (subst (λ o. HasBegunWithin o w (term_in a.static_type) b) none began)
+      of (hands_taken task y by takes params needs within apart) =
+          let h = subst (λ o. HasBegunWithin o w (term_in a.static_type) b) takes began in
+          absurd (none-some h.whole (sym (apart h.number) ∙ h.began))

@@ -1,10 +1,10 @@
 -- The code of blocks has marks.
 use Rattle.std.proofs.Common.{◌≡◌, inr, ⊎_elim, ℕ, ◌<◌, [], ◌∷◌, true, ◌&&◌, Some, None, refl, sym, ap, ◌∙◌, subst, arith}
-use Rattle.std.specs.Prelude.{length, map}
+use Rattle.std.specs.Prelude.{length}
 use Rattle.regent_tree.specs.declared.statement.How.TheVariants as how
 use Rattle.regent_tree.specs.declared.typing.Bound.{Bound}
-use Rattle.regent_tree.specs.Syntax.{no_step, field_step, at_step, plain_initializer, region_initializer, both_initializer, by_field_initializer, either_initializer, equal_initializer, image_initializer, preimage_initializer, a_statement, Form, var_form, if_form, while_form, for_in_form, for_to_form, do_form, fill_form, call_form, assert_form, print_form, assign_form, return_form, Block, no_statement, then_statement, Arms, no_arm, an_arm, Otherwise, no_else, else_block}
-use Rattle.regent_tree.specs.Typing.{kind_of_ispace, arithmetic_type, scope_after_block, owned, taken_from, var_type}
+use Rattle.regent_tree.specs.Syntax.{no_step, field_step, at_step, plain_initializer, a_statement, Form, var_form, if_form, while_form, for_in_form, for_to_form, do_form, fill_form, call_form, assert_form, print_form, assign_form, return_form, Block, no_statement, then_statement, Arms, no_arm, an_arm, Otherwise, no_else, else_block}
+use Rattle.regent_tree.specs.Typing.{arithmetic_type, scope_after_block, owned, taken_from, var_type}
 use Rattle.task_code.specs.declared.code.TaskCode.{TaskCode}
 use Rattle.task_code.specs.declared.instr.Instr.TheVariants as instr
 use Rattle.code_rules.specs.Initializers.{new_place}
@@ -13,39 +13,36 @@ use Rattle.code_rules.specs.Slots.{Where, typed, bound, beside, slot_named}
 use Rattle.code_rules.specs.Statements.{on_line, looping, after_form, after_arm, after_arms, form_code, arms_code, else_code, block_code}
 use Rattle.code_laws.specs.Standing.{Stands}
 use Rattle.code_laws.proofs.Names.{arms_names, else_names}
-use Rattle.fit_rules.specs.Shapes.{integer, Is, own_as}
+use Rattle.fit_rules.specs.Shapes.{integer, Is}
 use Rattle.fit_rules.specs.Marks.{Mark, stacked}
 use Rattle.fit_rules.specs.Fits.{Program}
-use Rattle.regent_tree.specs.StaticTypes.{place_of_space}
 use Rattle.code_laws.specs.Steps.{Forms}
-use Rattle.code_laws.specs.Typed.{IsKeepable, IsTyped, element_field, IsTypedForm, AreTypedArms, IsTypedElse, IsTypedBlock}
+use Rattle.code_laws.specs.Typed.{IsIndexed, IsKeepable, IsTyped, element_field, IsTypedForm, AreTypedArms, IsTypedElse, IsTypedBlock}
 use Rattle.fit_rules.specs.Shapes.{index}
 use Rattle.marked_code.specs.Marked.{leads_nowhere, typed_op}
 use Rattle.code_laws.proofs.Wider.{any_field, assigned, beginning, counting, zeroed}
 use Rattle.sound_code.specs.Named.{HasPartBeside, HasSlots}
-use Rattle.regent_tree.specs.Scopes.{in_scope, past, Scope}
-use Rattle.regent_tree.specs.StaticTypes.{looked_up}
+use Rattle.regent_tree.specs.Scopes.{past, Scope}
 use Rattle.regent_tree.specs.Typing.{scope_after_arms}
-use Rattle.std.proofs.lemmas.Bool.{false≢true}
 use Rattle.regent_tree.specs.declared.rights.Access.TheVariants as access
 use Rattle.check_rules.specs.types.Parts.{tests_of}
 use Rattle.check_laws.specs.MeantVisits.{meant_in_arms, meant_in_else, meant_within}
-use Rattle.fit_rules.specs.Shapes.{region}
-use Rattle.sound_code.specs.WholeTasks.{is_value, are_whole_arms, is_whole_block, is_whole_else, is_whole_expression, is_whole_form}
+use Rattle.sound_code.proofs.WholeTasks.{is_value, are_whole_arms, is_whole_block, is_whole_else, is_whole_expression, is_whole_form}
 use Rattle.sound_code.specs.Ways.{Way, shape_in, shape_of}
-use Rattle.sound_code.proofs.Wholes.{Asks, asks_first, asks_second, assigned_becomes, begins_becomes, behind_kept, element_kept, begun_whole, field_few, said_worth, set_worth, worth_few, worth_named, worth_numbered, worth_simple, zero_worth}
+use Rattle.sound_code.proofs.Wholes.{Asks, asks_first, asks_second, assigned_becomes, begins_becomes, begun_whole, field_few, said_worth, set_worth, worth_few, worth_named, worth_numbered, worth_simple, zero_worth}
 use Rattle.sound_code.proofs.Scoped.{Scoped}
 use Rattle.sound_code.proofs.ScopedNames.{said_scoped, scoped_bound, simple_scoped, zero_scoped}
 use Rattle.sound_code.proofs.Pointing.{reduce_behind_marked, set_behind_marked}
 use Rattle.sound_code.proofs.Copies.{begun_marked}
-use Rattle.sound_code.proofs.CutForms.{by_field_marked, equal_marked, image_marked, join_marked, meet_marked, minus_marked, preimage_marked}
+use Rattle.sound_code.proofs.CutForms.{minus_marked}
+use Rattle.sound_code.proofs.Started.{said_started, started}
 use Rattle.sound_code.proofs.Cuts.{cut_plain, cut_same}
 use Rattle.sound_code.proofs.NoCuts.{worth_no_partition}
 use Rattle.sound_code.proofs.Bindings.{over_points, parts_told, widens}
 use Rattle.sound_code.proofs.Domains.{domain_marked}
 use Rattle.sound_code.proofs.Taken.{looped_parts, taken_scoped}
 use Rattle.sound_code.proofs.Besides.{written_no_child}
-use Rattle.sound_code.proofs.Numbering.{free_number, numbered_more}
+use Rattle.sound_code.proofs.Numbering.{numbered_more}
 use Rattle.sound_code.proofs.Behind.{after_arms_ground, after_block_ground, after_form_ground, counted_simple}
 use Rattle.sound_code.proofs.Grounds.{Ground, facts_more, facts_among, ground_block, ground_looping}
 use Rattle.sound_code.proofs.Steady.{steady_below}
@@ -58,12 +55,13 @@ use Rattle.sound_code.proofs.Elements.{reduces, writes}
 use Rattle.sound_code.proofs.Expressions.{converted_marked, integer_is_plain, named_at, region_named, stored, touched}
 use Rattle.sound_code.proofs.Filling.{fill_marked}
 use Rattle.sound_code.proofs.Folds.{folded}
+use Rattle.sound_code.proofs.FurtherTargets.{behind_reduced, behind_set, point_reduced, point_set}
 use Rattle.sound_code.proofs.Loops as numbers
 use Rattle.sound_code.proofs.Narrowing.{narrow_itself, narrow_then, narrow_long, narrow_into, fewer_facts}
 use Rattle.sound_code.proofs.Prints.{print_marked}
 use Rattle.sound_code.proofs.Rounds.{domain_there, long_round, round_narrow, round_ready}
 use Rattle.sound_code.proofs.PointLoops as points
-use Rattle.sound_code.proofs.Statements.{begin_marked, Followed, new_name, unchanged, value_marked, root_marked, bind_marked, assign_marked, return_marked, assert_marked, call_marked, closed_block, while_marked, branch_marked}
+use Rattle.sound_code.proofs.Statements.{begin_marked, Followed, new_name, unchanged, value_marked, bind_marked, assign_marked, return_marked, assert_marked, call_marked, closed_block, while_marked, branch_marked}
 
 module _ (g : Program) (t : TaskCode) (k slots : ℕ) (have : HasSlots t slots) (forms : Forms) (way : Way) where
   -- what is asked of a place
@@ -110,19 +108,7 @@ module _ (g : Program) (t : TaskCode) (k slots : ℕ) (have : HasSlots t slots) 
         ⊎_elim (λ (begun : (IsKeepable forms.keeps w e × IsTyped forms w e) × Asks forms.keeps (is_value true (owned w.scope.next (typed w e)) && is_whole_expression true w e)).
         begun_marked g t k slots have forms way w m a x e told begun.0.0 begun.0.1 begun.1 pc st)
         (λ d. minus_marked g t k slots have forms way w m a x e told d.0 d.1 (stored g t k slots have forms way w m a _ _ st.1))
-        (begun_whole forms.keeps w e _ (IsTyped forms w e) f whole)
-    form_marked w m (var_form x None (Some (region_initializer e u))) f whole a told within pc st =
-        let sp = place_of_space w.tree u.name in
-        let v = var_type w.tree w.scope None (Some (region_initializer e u)) in
-        let b = new_name g t k slots have forms way w m a x v in
-        let free = free_number t way w.tree w.params w.scope (var_form x None (Some (region_initializer e u))) m.slots (kind_of_ispace (typed w e)) sp
-        (map (looked_up (in_scope w.scope)) u.args) a.ground told a.ready.numbered in
-        bind_marked g t k slots have forms way w m a x (region (Some sp) (own_as free.number)) v _ free.becomes
-        (free.named b refl)
-        (scoped_bound forms.keeps way w.tree w.scope (var_form x None (Some (region_initializer e u))) b refl told a.scoped (λ all. refl))
-        (cut_plain forms.keeps way w.tree w.scope (var_form x None (Some (region_initializer e u))) b w.params m.facts m.facts refl told (λ l h. h) a.cut tt) refl
-        (root_marked g t k slots have forms way w m a e sp free.number free.others f.1 f.2 whole
-        (told_head w.tree w.scope way (var_form x None (Some (region_initializer e u))) e refl told) f.3 pc st.0.0) (stored g t k slots have forms way w m a _ _ st.1)
+        (begun_whole forms.keeps forms.takes w e (is_whole_expression true w e) (IsTyped forms w e) (IsIndexed forms w e) f whole)
     form_marked w m (var_form x (Some term) (Some (plain_initializer e))) f whole a told within pc st =
         let inside = asks_second forms.keeps _ (is_whole_expression true w e) whole in
         let u = var_type w.tree w.scope (Some term) (Some (plain_initializer e)) in
@@ -319,20 +305,17 @@ module _ (g : Program) (t : TaskCode) (k slots : ℕ) (have : HasSlots t slots) 
         (both g t k (value_marked g t k slots have forms way w m a y [] f.3 whole
         (told_head w.tree w.scope way (assign_form x (field_step l no_step) (how.Reduce o) y) y refl told) pc st.0)
         (reduce_behind_marked g t k slots forms way w m a x l o y (shape_of (typed w y)) f.0 (scalar_numeric _ (integer_is_plain _ f.1)) f.2 f.4 told))
-    form_marked w m (var_form x None (Some (equal_initializer r e))) f whole a told within pc st =
-        equal_marked g t k slots have forms way w m a x r e told f.1 f.2 whole f.3 pc st.0.0 (stored g t k slots have forms way w m a _ _ st.1)
-    form_marked w m (var_form x None (Some (by_field_initializer r l e))) f whole a told within pc st =
-        by_field_marked g t k slots have forms way w m a x r l e told f.1 f.2 whole f.3 pc st.0.0 (stored g t k slots have forms way w m a _ _ st.1)
-    form_marked w m (var_form x None (Some (image_initializer s p r l))) f whole a told within pc st =
-        image_marked g t k slots have forms way w m a x s p r l told f.0 f.1 f.2 f.3 f.4 (stored g t k slots have forms way w m a _ _ st.1)
-    form_marked w m (var_form x None (Some (preimage_initializer s p r l))) f whole a told within pc st =
-        preimage_marked g t k slots have forms way w m a x s p r l told f.0 f.1 f.2 f.3 f.4 (stored g t k slots have forms way w m a _ _ st.1)
-    form_marked w m (var_form x None (Some (both_initializer p q))) f whole a told within pc st =
-        meet_marked g t k slots have forms way w m a x p q told f.0 f.1 (stored g t k slots have forms way w m a _ _ st.1)
-    form_marked w m (var_form x None (Some (either_initializer p q))) f whole a told within pc st =
-        join_marked g t k slots have forms way w m a x p q told f.0 f.1 (stored g t k slots have forms way w m a _ _ st.1)
-    form_marked w m (assign_form x (field_step l (field_step e rest)) h y) f whole a told within pc st = absurd (false≢true (whole (behind_kept forms w x l e rest h y f)))
-    form_marked w m (assign_form x (at_step i (field_step l (field_step e rest))) h y) f whole a told within pc st = absurd (false≢true (whole (element_kept forms w x i l e rest h y f)))
+    form_marked w m (var_form x None (Some start)) f whole a told within pc st = started g t k slots have forms way w m a x start f whole told pc st
+    form_marked w m (var_form x (Some said) (Some start)) f whole a told within pc st =
+        said_started g t k slots have forms way w m a x said start f.1 f.2 whole told pc st
+    form_marked w m (assign_form x (field_step l (field_step e rest)) how.Set y) f whole a told within pc st = unchanged g t k forms.keeps way _ _ m _ a.ready a.scoped a.cut
+        (behind_set g t k slots have forms way w m a f.0 x l e rest y f whole (told_head w.tree w.scope way (assign_form x (field_step l (field_step e rest)) how.Set y) y refl told) told pc st)
+    form_marked w m (assign_form x (field_step l (field_step e rest)) (how.Reduce o) y) f whole a told within pc st = unchanged g t k forms.keeps way _ _ m _ a.ready a.scoped a.cut
+        (behind_reduced g t k slots have forms way w m a f.0 x l e rest o y f whole (told_head w.tree w.scope way (assign_form x (field_step l (field_step e rest)) (how.Reduce o) y) y refl told) told pc st)
+    form_marked w m (assign_form x (at_step i (field_step l (field_step e rest))) how.Set y) f whole a told within pc st = unchanged g t k forms.keeps way _ _ m _ a.ready a.scoped a.cut
+        (point_set g t k slots have forms way w m a f.0 x i l e rest y f (asks_first _ _ _ whole) (asks_second _ _ _ whole) (told_head w.tree w.scope way (assign_form x (at_step i (field_step l (field_step e rest))) how.Set y) y refl told) told pc st)
+    form_marked w m (assign_form x (at_step i (field_step l (field_step e rest))) (how.Reduce o) y) f whole a told within pc st = unchanged g t k forms.keeps way _ _ m _ a.ready a.scoped a.cut
+        (point_reduced g t k slots have forms way w m a f.0 x i l e rest o y f (asks_first _ _ _ whole) (asks_second _ _ _ whole) (told_head w.tree w.scope way (assign_form x (at_step i (field_step l (field_step e rest))) (how.Reduce o) y) y refl told) told pc st)
     form_marked w m _ f whole a told within pc st = absurd f
 
     arms_marked : (own w : Where) (m : Mark) (arms : Arms) (other : Piece) → AreTypedArms forms own w arms → Asks forms.keeps (are_whole_arms true own w arms) → At own m →

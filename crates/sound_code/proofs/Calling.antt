@@ -42,7 +42,7 @@ use Rattle.regent_tree.specs.Scopes.{scope_of}
 use Rattle.regent_tree.specs.declared.facts.Known.{Known as RegionKnown}
 use Rattle.regent_tree.specs.declared.facts.Known.TheVariants.{Within, Apart, PartOf}
 use Rattle.regent_tree.specs.declared.facts.Term.TheVariants.{Name as TermName}
-use Rattle.sound_code.specs.WholeTasks.{are_whole_arguments}
+use Rattle.sound_code.proofs.WholeTasks.{are_whole_arguments}
 use Rattle.sound_code.proofs.Asked.{opening_mark, other, Known}
 use Rattle.sound_code.proofs.Wholes.{Asks, asks_first, asks_second, given_whole, IsWorth, worth_named, worth_pointer, worth_simple}
 
@@ -186,7 +186,8 @@ passed_worth forms plain w [] [] no_expr h asks = tt
 passed_worth forms plain w (t ∷ ts) (p ∷ ps) (an_expr e es) h asks = (
   given_whole forms.keeps forms.takes w t p e (IsTyped forms w e) (IsIndexed forms w e) (IsWorth p) (asks_first _ _ _ asks)
       (λ enters is. enters.worth)
-      (λ y takes q. absurd (none-some y (sym plain ∙ takes))) (λ b a. absurd (none-some a.taking (sym plain ∙ a.takes))) h.0,
+      (λ y takes q. absurd (none-some y (sym plain ∙ takes))) (λ b a. absurd (none-some a.taking (sym plain ∙ a.takes)))
+      (λ b a. absurd (none-some a.taking (sym plain ∙ a.takes))) h.0,
   passed_worth forms plain w ts ps es h.1 (asks_second _ _ _ asks),
 )
 passed_worth forms plain w [] [] (an_expr e es) h asks = absurd h

@@ -32,7 +32,7 @@ use Rattle.fit_rules.specs.Fits.{Program}
 use Rattle.fit_rules.specs.Sound.{does_load, settled_number, settled_region}
 use Rattle.fit_laws.proofs.Keeping.{get_other, get_set, set_mark}
 use Rattle.sound_code.specs.Named.{HasPartBeside, HasSlots, IsNumbered, Ready, slot_at}
-use Rattle.sound_code.specs.WholeTasks.{is_value, is_whole_expression}
+use Rattle.sound_code.proofs.WholeTasks.{is_value, is_whole_expression}
 use Rattle.sound_code.specs.Ways.{origin_in, shape_in, shape_of, Way}
 use Rattle.sound_code.proofs.Asked.{Asked}
 use Rattle.sound_code.proofs.Besides.{NamesNoChild, part_named, parts_behind}

@@ -5,10 +5,12 @@ use Rattle.regent_tree.specs.Accesses.{space_in}
 use Rattle.regent_tree.specs.Scopes.{bound_as}
 use Rattle.regent_tree.specs.StaticTypes.{field_place}
 use Rattle.regent_tree.specs.Syntax.{a_link, access_expr, both_initializer, Initializer, by_field_initializer, chain_expr, either_initializer, equal_initializer, Expression, Form, image_initializer, Name, no_link, no_step, plain_initializer, preimage_initializer, var_form}
-use Rattle.regent_tree.specs.Typing.{is_disjoint, operated, owned, parent_of}
+use Rattle.regent_tree.specs.Partitions.{both_flag, by_field_flag, either_flag, equal_flag, image_flag, preimage_flag}
+use Rattle.regent_tree.specs.Typing.{is_disjoint, operated, owned, parent_of, var_type}
 use Rattle.regent_tree.specs.declared.expression.Arithmetic.TheVariants.{Subtract}
 use Rattle.regent_tree.specs.declared.expression.Operator.TheVariants.{Compute}
 use Rattle.regent_tree.specs.declared.rights.Access.TheVariants as access
+use Rattle.regent_tree.specs.declared.types.TypeTerm.{TypeTerm}
 use Rattle.regent_tree.specs.declared.typing.Bound.{Bound}
 use Rattle.regent_tree.specs.declared.typing.StaticType.{StaticType}
 use Rattle.regent_tree.specs.declared.typing.StaticType.TheVariants.{Partition as partition_type}
@@ -21,6 +23,7 @@ use Rattle.code_rules.specs.Pieces.{op, Piece, ◌⨟◌}
 use Rattle.code_rules.specs.Slots.{bound, slot_bound, slot_named, typed, Where}
 use Rattle.code_rules.specs.Statements.{after_form, form_code}
 use Rattle.code_laws.specs.Arguments.{ArePaired, IsCutName, IsParent, LiesBelow, parent_bound}
+use Rattle.code_laws.specs.Pointers.{IsLike}
 use Rattle.code_laws.specs.Simple.{a_partition_type, IsPartition, IsRegion, IsSpace}
 use Rattle.code_laws.specs.Standing.{Stands}
 use Rattle.code_laws.specs.Steps.{Forms}
@@ -34,7 +37,7 @@ use Rattle.fit_rules.specs.Marks.{Holds, Mark, parted, stacked, topped, top_part
 use Rattle.fit_rules.specs.Fits.{Program}
 use Rattle.fit_rules.specs.Sound.{Allowed, HasRegion}
 use Rattle.sound_code.specs.Named.{HasSlots, is_parted, IsSteady, slot_at}
-use Rattle.sound_code.specs.WholeTasks.{is_whole_expression}
+use Rattle.sound_code.proofs.WholeTasks.{is_whole_expression}
 use Rattle.sound_code.specs.Ways.{Way}
 use Rattle.sound_code.proofs.Asked.{Asked}
 use Rattle.sound_code.proofs.Below.{lies_below, parted_above}
@@ -43,6 +46,7 @@ use Rattle.sound_code.proofs.Cuts.{cut_bound, place_as}
 use Rattle.sound_code.proofs.Parts.{cut_of as partition_of, IsCutOf}
 use Rattle.sound_code.proofs.Cutting.{any_partition, cut_by_field, cut_equal, cut_image, cut_join, cut_meet, cut_minus, cut_preimage, knowing, storing_cut}
 use Rattle.sound_code.proofs.Granting.{allowed, InPlace, May}
+use Rattle.sound_code.proofs.Liking.{like_cut}
 use Rattle.sound_code.proofs.Narrowing.{narrow_itself, narrow_set}
 use Rattle.sound_code.proofs.Placing.{named_at, placed_at, region_named}
 use Rattle.sound_code.proofs.Scoped.{is_by_rules, IsByRules, placed_as, region_as}
@@ -90,7 +94,7 @@ module _ (g : Program) (t : TaskCode) (k slots : ℕ) (have : HasSlots t slots) 
         };
         narrower = narrow_set m.slots m.slots slot _ (narrow_itself m.slots) (inl (ready.free slot (omega arith) hi));
         facts = λ l a. inr a;
-        scoped = scoped_bound forms.keeps way w.tree w.scope form b refl told asked.scoped (λ all. tt);
+        scoped = scoped_bound forms.keeps way w.tree w.scope form b refl told asked.scoped (λ all. refl);
         cut = cut_bound forms.keeps way w.tree w.scope form b w.params m.facts (parted slot s ∷ m.facts) refl told (λ l a. inr a) asked.cut
             (λ all. (region, inl (ap (parted slot) same)));
       }
@@ -138,15 +142,30 @@ module _ (g : Program) (t : TaskCode) (k slots : ℕ) (have : HasSlots t slots) 
   abbrev Binds : Form → Type 0
   Binds form = Followed g t k forms.keeps way w.params (after_form w form).scope.names m (form_code w form)
 
+  -- a name that begins so is bound to a partition of the region with a number, said to be disjoint or not
+  abbrev Makes : Name → Bool → ℕ → Form → Type 0
+  Makes x c r form = Followed g t k forms.keeps way w.params
+      (new_name g t k slots have forms way w m asked x (partition_type c r w.scope.next) ∷ w.scope.names) m (form_code w form)
+
+  -- so it is where its type is written
+  pub said_cut : (x : Name) (st : TypeTerm) (start : Initializer) (d : Bool) (r : ℕ) →
+      IsLike (var_type w.tree w.scope (Some st) (Some start)) (partition_type d r w.scope.next) →
+      ((c : Bool) → (c ≡ true → d ≡ true) → Makes x c r (var_form x (Some st) (Some start))) → Binds (var_form x (Some st) (Some start))
+  said_cut x st start d r like made =
+      let is = like_cut _ d r w.scope.next like in
+      subst (λ u. Followed g t k forms.keeps way w.params (new_name g t k slots have forms way w m asked x u ∷ w.scope.names) m
+      (form_code w (var_form x (Some st) (Some start)))) (sym is.is) (made is.flag is.disjoint)
+
   abbrev HasRoom : Type 0
   HasRoom = slot_at w.params (length w.scope.names) < length m.slots
 
-  pub equal_marked : (x r : Name) (e : Expression) → ToldForm way w.tree w.scope (var_form x None (Some (equal_initializer r e))) → IsSpace (typed w e) →
+  pub equal_marked : (x : Name) (said : Option TypeTerm) (c : Bool) (r : Name) (e : Expression) →
+      ToldForm way w.tree w.scope (var_form x said (Some (equal_initializer r e))) → (c ≡ true → equal_flag ≡ true) → IsSpace (typed w e) →
       IsTyped forms w e → Asks forms.keeps (is_whole_expression true w e) → IsParent w r → (pc : ℕ) → Stands t.body pc (expr_code w 0 e) → HasRoom →
-      Binds (var_form x None (Some (equal_initializer r e)))
-  equal_marked x r e told is_space is whole parent pc st room =
-      let form = var_form x None (Some (equal_initializer r e)) in
-      bind_cut x _ true true (bound w r).number (slot_named w r) form _ told (λ y. y) (parent_region r parent) (parent_slot r parent)
+      Makes x c (bound w r).number (var_form x said (Some (equal_initializer r e)))
+  equal_marked x said c r e told flag is_space is whole parent pc st room =
+      let form = var_form x said (Some (equal_initializer r e)) in
+      bind_cut x _ true c (bound w r).number (slot_named w r) form _ told flag (parent_region r parent) (parent_slot r parent)
       (both g t k (space_marked g t k slots have forms way w m asked e is_space is whole (told_head w.tree w.scope way form e refl told) pc st)
       (cut_equal g t k w.line m (slot_named w r) _ (parent_there r parent))) room
 
@@ -159,64 +178,69 @@ module _ (g : Program) (t : TaskCode) (k slots : ℕ) (have : HasSlots t slots) 
       (named_at way w.params m.slots w.scope.names r asked.ready.named h.parent.named)
       (placed_at t way w.tree w.params w.scope r asked.ground h.parent.named) h.field may
 
-  pub by_field_marked : (x r l : Name) (e : Expression) → ToldForm way w.tree w.scope (var_form x None (Some (by_field_initializer r l e))) → IsSpace (typed w e) →
+  pub by_field_marked : (x : Name) (said : Option TypeTerm) (c : Bool) (r l : Name) (e : Expression) →
+      ToldForm way w.tree w.scope (var_form x said (Some (by_field_initializer r l e))) → (c ≡ true → by_field_flag ≡ true) → IsSpace (typed w e) →
       IsTyped forms w e → Asks forms.keeps (is_whole_expression true w e) → IsScanned forms w r l → (pc : ℕ) → Stands t.body pc (expr_code w 0 e) → HasRoom →
-      Binds (var_form x None (Some (by_field_initializer r l e)))
-  by_field_marked x r l e told is_space is whole scan pc st room =
+      Makes x c (bound w r).number (var_form x said (Some (by_field_initializer r l e)))
+  by_field_marked x said c r l e told flag is_space is whole scan pc st room =
       let init = by_field_initializer r l e in
-      let form = var_form x None (Some init) in
-      bind_cut x _ true true (bound w r).number (slot_named w r) form _ told (λ y. y) (parent_region r scan.parent) (parent_slot r scan.parent)
+      let form = var_form x said (Some init) in
+      bind_cut x _ true c (bound w r).number (slot_named w r) form _ told flag (parent_region r scan.parent) (parent_slot r scan.parent)
       (both g t k (space_marked g t k slots have forms way w m asked e is_space is whole (told_head w.tree w.scope way form e refl told) pc st)
       (cut_by_field g t k w.line m (slot_named w r) _ _
-      (scanned x r l init (space ∷ []) scan (may_scan way w x r l init scan.parent.region scan.field refl told)))) room
+      (scanned x r l init (space ∷ []) scan (may_scan way w x said r l init scan.parent.region scan.field refl told)))) room
 
-  pub image_marked : (x s p r l : Name) → ToldForm way w.tree w.scope (var_form x None (Some (image_initializer s p r l))) → forms.keeps ≡ true → IsParent w s →
-      IsCutName w p → IsScanned forms w r l → LiesBelow forms.takes (parent_bound w p) (bound w r) → HasRoom →
-      Binds (var_form x None (Some (image_initializer s p r l)))
-  image_marked x s p r l told keeps parent cut scan below room =
+  pub image_marked : (x : Name) (said : Option TypeTerm) (c : Bool) (s p r l : Name) →
+      ToldForm way w.tree w.scope (var_form x said (Some (image_initializer s p r l))) → (c ≡ true → image_flag ≡ true) → forms.keeps ≡ true → IsParent w s →
+      IsCutName w p → IsScanned forms w r l → LiesBelow forms.takes w (parent_bound w p) (bound w r) → HasRoom →
+      Makes x c (bound w s).number (var_form x said (Some (image_initializer s p r l)))
+  image_marked x said c s p r l told flag keeps parent cut scan below room =
       let init = image_initializer s p r l in
       let of = cut_of p keeps cut in
       let number = parent_of (bound w p).static_type in
-      bind_cut x _ false false (bound w s).number (slot_named w s) (var_form x None (Some init)) _ told (λ y. y) (parent_region s parent) (parent_slot s parent)
+      bind_cut x _ false c (bound w s).number (slot_named w s) (var_form x said (Some init)) _ told flag (parent_region s parent) (parent_slot s parent)
       (cut_image g t k w.line m (slot_named w s) (slot_named w p) (slot_named w r) _ _ None _ (parent_there s parent)
       (record { disjoint = of.disjoint; shape = of.shape })
-      (scanned x r l init [] scan (may_scan way w x r l init scan.parent.region scan.field refl told))
+      (scanned x r l init [] scan (may_scan way w x said r l init scan.parent.region scan.field refl told))
       (λ y vs st q. parted_above vs (slot_named w p) (slot_bound w number) (slot_named w r)
       (each_among (λ f. Holds f vs) m.facts (parted (slot_named w p) (slot_bound w number)) of.fact q.facts)
       (lies_below g t k slots forms way w m asked (parent_bound w p) (bound w r) of.region scan.parent.region (placed_by way (asked.ruled keeps) asked.ground number of.region)
       (placed_name keeps r scan.parent) below y vs st q))) room
 
-  pub preimage_marked : (x s p r l : Name) → ToldForm way w.tree w.scope (var_form x None (Some (preimage_initializer s p r l))) → forms.keeps ≡ true → IsParent w s →
-      IsCutName w p → IsScanned forms w r l → LiesBelow forms.takes (bound w s) (bound w r) → HasRoom →
-      Binds (var_form x None (Some (preimage_initializer s p r l)))
-  preimage_marked x s p r l told keeps parent cut scan below room =
+  pub preimage_marked : (x : Name) (said : Option TypeTerm) (c : Bool) (s p r l : Name) →
+      ToldForm way w.tree w.scope (var_form x said (Some (preimage_initializer s p r l))) → (c ≡ true → preimage_flag (is_disjoint (bound w p).static_type) ≡ true) →
+      forms.keeps ≡ true → IsParent w s → IsCutName w p → IsScanned forms w r l → LiesBelow forms.takes w (bound w s) (bound w r) → HasRoom →
+      Makes x c (bound w s).number (var_form x said (Some (preimage_initializer s p r l)))
+  preimage_marked x said c s p r l told flag keeps parent cut scan below room =
       let init = preimage_initializer s p r l in
       let of = cut_of p keeps cut in
-      bind_cut x _ of.disjoint _ (bound w s).number (slot_named w s) (var_form x None (Some init)) _ told (λ y. sym of.is ∙ y)
+      bind_cut x _ of.disjoint c (bound w s).number (slot_named w s) (var_form x said (Some init)) _ told (λ y. sym of.is ∙ flag y)
       (parent_region s parent) (parent_slot s parent)
       (cut_preimage g t k w.line m (slot_named w s) (slot_named w p) (slot_named w r) _ _ None _ of.disjoint (parent_there s parent) of.shape
-      (scanned x r l init [] scan (may_scan way w x r l init scan.parent.region scan.field refl told))
+      (scanned x r l init [] scan (may_scan way w x said r l init scan.parent.region scan.field refl told))
       (lies_below g t k slots forms way w m asked (bound w s) (bound w r) parent.region scan.parent.region (placed_name keeps s parent)
       (placed_name keeps r scan.parent) below)) room
 
-  pub meet_marked : (x p q : Name) → ToldForm way w.tree w.scope (var_form x None (Some (both_initializer p q))) → forms.keeps ≡ true → ArePaired w p q → HasRoom →
-      Binds (var_form x None (Some (both_initializer p q)))
-  meet_marked x p q told keeps pair room =
+  pub meet_marked : (x : Name) (said : Option TypeTerm) (c : Bool) (p q : Name) → ToldForm way w.tree w.scope (var_form x said (Some (both_initializer p q))) →
+      (c ≡ true → both_flag (is_disjoint (bound w p).static_type) (is_disjoint (bound w q).static_type) ≡ true) → forms.keeps ≡ true → ArePaired w p q → HasRoom →
+      Makes x c (parent_of (bound w p).static_type) (var_form x said (Some (both_initializer p q)))
+  meet_marked x said c p q told flag keeps pair room =
       let one = cut_of p keeps pair.first in
       let two = cut_of q keeps pair.second in
       let number = parent_of (bound w p).static_type in
-      bind_cut x _ (one.disjoint || two.disjoint) _ number (slot_bound w number) (var_form x None (Some (both_initializer p q))) _ told
-      (λ y. ap (λ b. b || two.disjoint) (sym one.is) ∙ ap (λ b. is_disjoint (bound w p).static_type || b) (sym two.is) ∙ y) one.region refl
+      bind_cut x _ (one.disjoint || two.disjoint) c number (slot_bound w number) (var_form x said (Some (both_initializer p q))) _ told
+      (λ y. ap (λ b. b || two.disjoint) (sym one.is) ∙ ap (λ b. is_disjoint (bound w p).static_type || b) (sym two.is) ∙ flag y) one.region refl
       (cut_meet g t k w.line m (slot_named w p) (slot_named w q) (slot_bound w number) None None _ one.disjoint two.disjoint one.shape two.shape
       (region_there number one.region) one.fact) room
 
-  pub join_marked : (x p q : Name) → ToldForm way w.tree w.scope (var_form x None (Some (either_initializer p q))) → forms.keeps ≡ true → ArePaired w p q → HasRoom →
-      Binds (var_form x None (Some (either_initializer p q)))
-  join_marked x p q told keeps pair room =
+  pub join_marked : (x : Name) (said : Option TypeTerm) (c : Bool) (p q : Name) → ToldForm way w.tree w.scope (var_form x said (Some (either_initializer p q))) →
+      (c ≡ true → either_flag ≡ true) → forms.keeps ≡ true → ArePaired w p q → HasRoom →
+      Makes x c (parent_of (bound w p).static_type) (var_form x said (Some (either_initializer p q)))
+  join_marked x said c p q told flag keeps pair room =
       let one = cut_of p keeps pair.first in
       let two = cut_of q keeps pair.second in
       let number = parent_of (bound w p).static_type in
-      bind_cut x _ false false number (slot_bound w number) (var_form x None (Some (either_initializer p q))) _ told (λ y. y) one.region refl
+      bind_cut x _ false c number (slot_bound w number) (var_form x said (Some (either_initializer p q))) _ told flag one.region refl
       (cut_join g t k w.line m (slot_named w p) (slot_named w q) (slot_bound w number) None None _ (record { disjoint = one.disjoint; shape = one.shape })
       (record { disjoint = two.disjoint; shape = two.shape }) (region_there number one.region) one.fact
       (subst (λ i. Among m.facts (parted (slot_named w q) (slot_bound w i))) (sym pair.parents) two.fact)) room

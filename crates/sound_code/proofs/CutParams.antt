@@ -14,8 +14,9 @@ use Rattle.regent_tree.specs.declared.types.TypeTerm.{TypeTerm}
 use Rattle.regent_tree.specs.declared.types.TypeTerm.TheVariants as typing
 use Rattle.regent_tree.specs.declared.typing.Bound.{Bound}
 use Rattle.expression_laws.proofs.Calls.{flat_has}
-use Rattle.code_laws.proofs.Entering.{ArePlacedBy, params_placed_by}
-use Rattle.code_laws.specs.Pointers.{AllGoBack, GoBack}
+use Rattle.code_laws.proofs.Entering.{ArePlacedBy, params_placed_by, placed_as_numbered}
+use Rattle.code_laws.proofs.Openings.{params_length}
+use Rattle.code_laws.specs.Pointers.{AllGoToParams, GoToParams}
 use Rattle.code_laws.specs.Simple.{IsRegion}
 use Rattle.fit_rules.specs.Shapes.{Among}
 use Rattle.fit_rules.specs.Marks.{Fact, parted}
@@ -25,15 +26,15 @@ use Rattle.sound_code.proofs.Declaring.{has_among}
 use Rattle.sound_code.proofs.ScopedNames.{go_both}
 use Rattle.sound_code.proofs.Cuts.{AreCut, IsCut}
 
--- a region of a number stands in the place of that number
-placed_as_numbered : (bs : List Bound) (i : ℕ) → ArePlacedBy bs → IsRegion (bound_as bs i).static_type → (bound_as bs i).place ≡ (bound_as bs i).number
-placed_as_numbered [] i a r = elim r [ ]
-placed_as_numbered (b ∷ bs) i a r = chosen (b.number == i) (placed_as_numbered bs i a.2) r
+-- a region that is found by its number has a place among those that are bound
+placed_low : (bs : List Bound) (i : ℕ) → ArePlacedBy bs → IsRegion (bound_as bs i).static_type → (bound_as bs i).place < length bs
+placed_low [] i a r = absurd (elim r [ ])
+placed_low (b ∷ bs) i a r = chosen (b.number == i) (placed_low bs i a.2) r
   where
-    chosen : (c : Bool) → (IsRegion (bound_as bs i).static_type → (bound_as bs i).place ≡ (bound_as bs i).number) →
-        IsRegion (cond c b (bound_as bs i)).static_type → (cond c b (bound_as bs i)).place ≡ (cond c b (bound_as bs i)).number
-    chosen true more r = a.1 ∙ sym a.0
-    chosen false more r = more r
+    chosen : (c : Bool) → (IsRegion (bound_as bs i).static_type → (bound_as bs i).place < length bs) →
+        IsRegion (cond c b (bound_as bs i)).static_type → (cond c b (bound_as bs i)).place < length (b ∷ bs)
+    chosen true more r = omega (arith, a.1)
+    chosen false more r = let low = more r in omega (arith, low)
 
 cut_behind : (params : ℕ) (ks : List Fact) (all bs : List Bound) (b : Bound) → AreCut params ks all bs → IsCut params ks all b.place b.static_type →
     AreCut params ks all (bs ++ b ∷ [])
@@ -68,7 +69,7 @@ module _ (tree : Tree) (t : TaskTree) where
       (subst (λ y. Has (cond y (parted p r ∷ []) []) (parted p r))
       (sym (ap (λ y. y && nat_lt r params) (lt-ltb p params lp) ∙ lt-ltb r params lr)) (inl refl)))
 
-  type_cut : (i : ℕ) (u : TypeTerm) → i < params → GoBack all (record { name = []; number = i; place = i; static_type = type_said tree (among_params t.params) i u; by_loop = false } ∷ []) →
+  type_cut : (i : ℕ) (u : TypeTerm) → i < params → GoToParams all (record { name = []; number = i; place = i; static_type = type_said tree (among_params t.params) i u; by_loop = false } ∷ []) →
       ((k : Known) → Has (known_of_type (type_said tree (among_params t.params) i u)) k → Has (known_of_params all) k) →
       IsCut params ks all i (type_said tree (among_params t.params) i u)
   type_cut i (typing.Number number.Int32) l h told = tt
@@ -80,16 +81,17 @@ module _ (tree : Tree) (t : TaskTree) where
   type_cut i (typing.Region k u) l h told = tt
   type_cut i (typing.Partition d r c) l h told =
       let q = binding_of (among_params t.params r) in
-      let back = h.0 in
-      let low : q < i = back.0 in
-      let place : (bound_as all q).place ≡ q = placed_as_numbered all q (params_placed_by tree t.params) back.2 ∙ back.1 in
-      let fact = part_fact i q d (told (PartOf i q d) (inl refl)) l (omega (arith, low, l)) in (
-        back.2,
+      let goal = h.0 in
+      let placed = params_placed_by tree t.params in
+      let place : (bound_as all q).place ≡ q = placed_as_numbered all q placed goal.1 ∙ goal.0 in
+      let low : q < params = omega (arith, place, placed_low all q placed goal.1, params_length tree t.params 0 t.params) in
+      let fact = part_fact i q d (told (PartOf i q d) (inl refl)) l low in (
+        goal.1,
         subst (λ y. Among ks (parted y (slot_at params (bound_as all q).place))) (omega (arith, l))
             (subst (λ y. Among ks (parted i y)) (omega (arith, place, low, l)) fact),
       )
 
-  params_cut : (i : ℕ) (qs : List Param) → i + length qs ≤ params → GoBack all (bound_params tree t.params i qs) →
+  params_cut : (i : ℕ) (qs : List Param) → i + length qs ≤ params → GoToParams all (bound_params tree t.params i qs) →
       ((k : Known) → Has (known_of_params (bound_params tree t.params i qs)) k → Has (known_of_params all) k) →
       AreCut params ks all (bound_params tree t.params i qs)
   params_cut i [] l h told = tt
@@ -100,6 +102,6 @@ module _ (tree : Tree) (t : TaskTree) where
       cut_behind params ks all bs b (params_cut (suc i) qs (omega (arith, l)) both.0 (λ k a. told k (tells_others bs b k a)))
       (type_cut i q.term (omega (arith, l)) (both.1, tt) (λ k a. told k (tells_last bs b k a)))
 
-  -- the parameters of a task, whose partitions are of parameters before them
-  pub opening_cut : AllGoBack all → AreCut params ks all all
+  -- the parameters of a task, whose partitions are of parameters
+  pub opening_cut : AllGoToParams all → AreCut params ks all all
   opening_cut h = params_cut 0 t.params (omega arith) h (λ k a. a)

@@ -1,4 +1,4 @@
--- The premises of the law on tasks that hand over no partitions hold of a program that makes partitions in each way.
+-- The premises of the law on whole programs hold of a program that makes partitions in each way.
 use Rattle.std.proofs.Common.{[], ◌∷◌, pos, refl, arith}
 use Rattle.std.proofs.lemmas.Int.{ints}
 use Rattle.regent_tree.specs.Limits.{parts_of_program, WithinLimits}
@@ -11,7 +11,7 @@ within : WithinLimits cuts_program
 within = record { each = all_keep (parts_of_program cuts_program) refl; nodes = omega (arith) }
 
 run : IsWholeProgramRun cuts_program (pos 2 ∷ [])
-run = record { run = record { within = within; accepted = refl; local = refl; numbers = (omega (arith, ints), tt) }; whole = refl }
+run = record { run = record { within = within; accepted = refl; local = refl; numbers = (omega (arith, ints), tt) }; free = refl }
 
 pub cuts_example_holds : CutsExampleHolds
 cuts_example_holds = record { run = run; sound = whole_programs_are_sound cuts_program (pos 2 ∷ []) run }

@@ -1,9 +1,9 @@
 -- The code that makes partitions, that keeps them, and that goes through their colours has marks; of a partition that is kept is
 -- known of which region it is.
-use Rattle.std.proofs.Common.{◌≡◌, inl, ℕ, ◌<◌, ◌≤◌, List, [], ◌∷◌, Bool, true, false, ◌||◌, None, Option, Some, refl, sym, ap, ◌∙◌, subst, arith}
+use Rattle.std.proofs.Common.{◌≡◌, inl, ℕ, zero, suc, ◌<◌, ◌≤◌, List, [], ◌∷◌, Bool, true, false, ◌||◌, None, Option, Some, refl, sym, ap, ◌∙◌, subst, arith}
 use Rattle.std.specs.Prelude.{length, slice_get, slice_set}
 use Rattle.std.proofs.lemmas.List.{length-set}
-use Rattle.std.proofs.lemmas.Option.{same_Some}
+use Rattle.std.proofs.lemmas.Option.{none-some, same_Some}
 use Rattle.lane_kernels.specs.declared.numbers.Mode.TheVariants as mode
 use Rattle.regent_tree.specs.Syntax.{field_step, Name, no_step}
 use Rattle.regent_tree.specs.Typing.{type_of_field}
@@ -25,11 +25,11 @@ use Rattle.code_laws.specs.Steps.{Forms}
 use Rattle.fit_laws.proofs.Keeping.{are_first, are_others, get_other, get_set, set_mark}
 use Rattle.fit_laws.proofs.Lookup.{as_long, each_among, set_at, value_at}
 use Rattle.fit_laws.proofs.Pointers.{among_coloured}
-use Rattle.fit_rules.specs.Shapes.{Among, Are, are_more, ComesFrom, Each, Is, is_number, is_partition, is_region, IsRegion, Numeric, numeric_index, numeric_integer, numeric_pointer, numeric_truth, Origin, part, partition, region, Shape, space, unknown, World}
+use Rattle.fit_rules.specs.Shapes.{Among, Are, are_more, are_none, ComesFrom, cut_from, Each, Is, is_cut, is_number, is_partition, is_region, IsRegion, Numeric, numeric_index, numeric_integer, numeric_pointer, numeric_truth, Origin, part, partition, region, Shape, space, unknown, World}
 use Rattle.fit_rules.specs.Marks.{any_colour, child_in, Fact, Holds, HoldsTop, in_slot, IsParted, lies, LiesAt, LiesIn, Mark, parted, stacked, Stores, Suits, top_colour, TopFact, top_lies, topped, top_parted}
 use Rattle.fit_rules.specs.Fits.{Program}
-use Rattle.fit_rules.specs.Sound.{Allowed, does_colors, HasPartition, HasRegion}
-use Rattle.marked_code.specs.Marked.{Leads, leads_child, leads_colouring, leads_cutting, leads_image, leads_join, leads_meet, leads_minus, leads_preimage, leads_storing, typed_from, typed_op}
+use Rattle.fit_rules.specs.Sound.{Allowed, does_colors, does_load, HasPartition, HasRegion, settled_cut}
+use Rattle.marked_code.specs.Marked.{Leads, leads_child, leads_colouring, leads_cutting, leads_image, leads_join, leads_meet, leads_minus, leads_on, leads_preimage, leads_storing, typed_from, typed_op}
 use Rattle.sound_code.specs.Ways.{shape_in, shape_of, Way}
 use Rattle.sound_code.proofs.Asked.{Asked}
 use Rattle.sound_code.proofs.Combining.{both, does, into, Keeps, Marked, nothing_done}
@@ -48,6 +48,25 @@ any_partition x sp d e _ i (is_partition _ _ q h) = is_partition None e q (recor
   count = h.count;
   regions = λ r a. let o = h.regions r a in (o.0, any_space x sp r o.1);
 })
+
+-- ---- slots of which more is known
+
+is_there : {A : Type 0} (xs : List A) (i : ℕ) (a : A) → slice_get xs i ≡ Some a → i < length xs
+is_there [] i a e = absurd (none-some a e)
+is_there (x ∷ xs) zero a e = omega arith
+is_there (x ∷ xs) (suc i) a e = let l = is_there xs i a e in omega (arith, l)
+
+slot_known : (x : World) (ss : List Shape) (vs : List Value) (i : ℕ) (a : Shape) (v : Value) → Are x ss vs → slice_get vs i ≡ Some v → Is x a v →
+    Are x (slice_set ss i a) vs
+slot_known x _ _ i a v are_none at h = are_none
+slot_known x _ _ zero a v (are_more s w ss vs g r) at h = are_more a w ss vs (subst (Is x a) (sym (same_Some w v at)) h) r
+slot_known x _ _ (suc i) a v (are_more s w ss vs g r) at h = are_more s w (slice_set ss i a) vs g (slot_known x ss vs i a v r at h)
+
+slot_as_before : (x : World) (ss : List Shape) (vs : List Value) (i : ℕ) (a b : Shape) → slice_get ss i ≡ Some b → ((v : Value) → Is x a v → Is x b v) →
+    Are x (slice_set ss i a) vs → Are x ss vs
+slot_as_before x [] vs i a b e less r = r
+slot_as_before x (s ∷ ss) _ zero a b e less (are_more _ v _ vs h r) = are_more s v ss vs (subst (λ c. Is x c v) (sym (same_Some s b e)) (less v h)) r
+slot_as_before x (s ∷ ss) _ (suc i) a b e less (are_more _ v _ vs h r) = are_more s v ss vs h (slot_as_before x ss vs i a b e less r)
 
 -- ---- a partition that is stored
 
@@ -137,6 +156,53 @@ module _ (g : Program) (t : TaskCode) (k line : ℕ) (m : Mark) where
       of x vs _ slots facts (are_more _ _ _ st (is_region _ _ r i) b) h =
           are_more _ _ us st (child_within x vs p s sp o r (each_among (λ f. Holds f vs) m.facts (parted p s) fact facts) slots hs i h) b
       of x vs _ slots facts (are_more _ _ _ st (is_number _ z f) b) h = absurd f
+
+  -- ---- partitions that are loaded
+
+  -- what is known of a partition in a slot, by the region in another of which it is
+  cut_known : (x : World) (vs : List Value) (p s sp : ℕ) (d : Bool) (o : Origin) (v : Value) → Holds (parted p s) vs → Are x m.slots vs →
+      slice_get m.slots s ≡ Some (region (Some sp) o) → slice_get vs p ≡ Some v → Is x (partition None d) v → Is x (cut_from None d o) v
+  cut_known x vs p s sp d o _ parts slots e at (is_number _ z f) = absurd f
+  cut_known x vs p s sp d o _ parts slots e at (is_partition _ _ q i) =
+      let w = parts q (ap partition_in at) in
+      let v = value_at x m.slots vs s (region (Some sp) o) slots e in
+      is_cut None d o q i (record { parent = w.parent; origin = of w.parent v.value (sym (ap region_in v.at) ∙ w.at) v.of; root = w.root; inside = w.inside })
+    where
+      of : (r : RegionValue) (v : Value) → region_in (Some v) ≡ Some r → Is x (region (Some sp) o) v → ComesFrom x o r
+      of r _ at (is_number _ z f) = absurd f
+      of r _ at (is_region _ _ q f) = subst (ComesFrom x o) (same_Some q r at) f.origin
+
+  less_known : (x : World) (d : Bool) (o : Origin) (v : Value) → Is x (cut_from None d o) v → Is x (partition None d) v
+  less_known x d o _ (is_cut _ _ _ q i c) = is_partition None d q i
+  less_known x d o _ (is_number _ z f) = absurd f
+
+  pub cut_loaded : (p s sp : ℕ) (d : Bool) (o : Origin) (us : List Shape) → slice_get m.slots p ≡ Some (partition None d) →
+      slice_get m.slots s ≡ Some (region (Some sp) o) → Among m.facts (parted p s) →
+      Marked g t k (stacked m us) (op (instr.Load p) line) (stacked m (cut_from None d o ∷ us))
+  cut_loaded p s sp d o us hp hs fact =
+      let known : Mark = record (stacked m us) { slots = slice_set m.slots p (cut_from None d o) } in
+      into g t k (record {
+        marks = _;
+        is = typed_from (stacked m us) known (stacked known (cut_from None d o ∷ us)) _ _
+            (λ x vs st q.
+            let v = value_at x m.slots vs p (partition None d) q.slots hp in record {
+              slots = slot_known x m.slots vs p (cut_from None d o) v.value q.slots v.at
+                  (cut_known x vs p s sp d o v.value (each_among (λ f. Holds f vs) m.facts (parted p s) fact q.facts) q.slots hs v.at v.of);
+              stack = q.stack;
+              facts = q.facts;
+              top = tt;
+              args = q.args;
+            })
+            (typed_op known _ (instr.Load p) line (leads_on known (instr.Load p) (cut_from None d o ∷ us)
+            (does_load p (cut_from None d o) us (get_set m.slots p (cut_from None d o) (is_there m.slots p (partition None d) hp)) (settled_cut None d o))))
+            (length-set m.slots p (cut_from None d o));
+      }) (λ x vs st q. record {
+        slots = slot_as_before x m.slots vs p (cut_from None d o) (partition None d) hp (λ v. less_known x d o v) q.slots;
+        stack = q.stack;
+        facts = q.facts;
+        top = tt;
+        args = q.args;
+      }) (sym (length-set m.slots p (cut_from None d o)))
 
   -- ---- partitions that are made
 

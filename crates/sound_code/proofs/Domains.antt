@@ -34,7 +34,7 @@ use Rattle.fit_rules.specs.Marks.{Mark, stacked}
 use Rattle.fit_rules.specs.Fits.{Program}
 use Rattle.fit_rules.specs.Sound.{does_load, settled_region}
 use Rattle.sound_code.specs.Named.{HasPartBeside, HasSlots, IsNumbered, IsOfNumber, IsPartBeside, parent_as, slot_at}
-use Rattle.sound_code.specs.WholeTasks.{is_whole_domain, is_whole_expression, names_region, takes_part}
+use Rattle.sound_code.proofs.WholeTasks.{is_whole_domain, is_whole_expression, names_region, takes_part}
 use Rattle.sound_code.specs.Ways.{all_made, by_rules, origin_in, shape_in, shape_of, Way}
 use Rattle.sound_code.proofs.Asked.{Asked}
 use Rattle.sound_code.proofs.Combining.{both, does, into, Marked, nothing_done}

@@ -1,6 +1,6 @@
 -- Code that goes to a field of an element of a region that a name has, and reads, writes or reduces it, and code
 -- that fills fields, has marks: the task made the region.
-use Rattle.std.proofs.Common.{◌≡◌, ℕ, ◌<◌, List, [], ◌∷◌, map, Some, refl, sym, ap, ◌∙◌, subst, arith}
+use Rattle.std.proofs.Common.{◌≡◌, ℕ, suc, ◌<◌, List, [], ◌∷◌, map, Some, refl, sym, ap, ◌∙◌, subst, arith}
 use Rattle.std.specs.Prelude.{get_or, length}
 use Rattle.std.proofs.lemmas.List.{length-map}
 use Rattle.std.proofs.lemmas.Simd.{map-map}
@@ -19,8 +19,8 @@ use Rattle.regent_tree.specs.declared.typing.StaticType.{StaticType}
 use Rattle.regent_tree.specs.Accesses.{space_in}
 use Rattle.regent_tree.specs.StaticTypes.{field_kind, field_kinds, field_place, field_term, kind_said, space_at}
 use Rattle.value_laws.specs.Shapes.{regions_listed}
-use Rattle.regent_tree.specs.Syntax.{Name, Tree, Expression, no_step, field_step, at_step}
-use Rattle.regent_tree.specs.Typing.{type_of_element}
+use Rattle.regent_tree.specs.Syntax.{Name, Tree, Expression, Steps, no_step, field_step, at_step}
+use Rattle.regent_tree.specs.Typing.{type_of_element, type_of_field}
 use Rattle.task_code.specs.declared.code.TaskCode.{TaskCode}
 use Rattle.task_code.specs.declared.instr.Instr.TheVariants as instr
 use Rattle.machine_terms.specs.Contents.{kinds_of}
@@ -84,19 +84,21 @@ module _ (g : Program) (t : TaskCode) (k : ℕ) (way : Way) (w : Where) (m : Mar
   abbrev pub MayTouch : StaticType → ℕ → Name → Mode → Type 0
   MayTouch u s f a = (us : List Shape) → Allowed g t (stacked m us) (space_in u) (field_place w.tree (space_in u) f) a s
 
-  pub reads : (u : StaticType) (place : ℕ) (e : Expression) (f : Name) (out : StaticType) (d : ℕ) (us : List Shape) → IsRegion u →
+  -- it is read, and what stands behind goes on with it
+  pub reads : (u : StaticType) (place : ℕ) (e : Expression) (f : Name) (rest : Steps) (out : StaticType) (d : ℕ) (us vs : List Shape) → IsRegion u →
       HasRegion m (Some (space_in u)) (slot w place) → IsCounting (typed w e) →
       slots_of w (slot w place) (type_of_element w.scope u e) ≡ slot w place ∷ [] → MayTouch u (slot w place) f mode.Read →
       FieldKeeps (field_term w.tree (space_in u) (field_place w.tree (space_in u) f)) out →
       ((pc : ℕ) → Stands t.body pc (expr_code w d e) →
-      Marked g t k (stacked m us) (expr_code w d e) (stacked m (shape_of (typed w e) ∷ us))) → (pc : ℕ) →
-      Stands t.body pc (load_code w u (slot w place) (at_step e (field_step f no_step))
-      ⨟ steps_code w d u (own_slot w u place) (at_step e (field_step f no_step))) →
+      Marked g t k (stacked m us) (expr_code w d e) (stacked m (shape_of (typed w e) ∷ us))) →
+      Marked g t k (stacked m (shape_of out ∷ us)) (steps_code w (suc d) (type_of_field w.tree (type_of_element w.scope u e) f) 0 rest) (stacked m vs) → (pc : ℕ) →
+      Stands t.body pc (load_code w u (slot w place) (at_step e (field_step f rest))
+      ⨟ steps_code w d u (own_slot w u place) (at_step e (field_step f rest))) →
       Marked g t k (stacked m us)
-      (load_code w u (slot w place) (at_step e (field_step f no_step))
-      ⨟ steps_code w d u (own_slot w u place) (at_step e (field_step f no_step)))
-      (stacked m (shape_of out ∷ us))
-  reads _ place e f out d us (a_region_type q sp args r) there h goes may fits marked pc st =
+      (load_code w u (slot w place) (at_step e (field_step f rest))
+      ⨟ steps_code w d u (own_slot w u place) (at_step e (field_step f rest)))
+      (stacked m vs)
+  reads _ place e f rest out d us vs (a_region_type q sp args r) there h goes may fits marked more pc st =
       let s = slot w place in
       let fp = field_place w.tree sp f in
       both g t k (nothing_done g t k _)
@@ -110,7 +112,7 @@ module _ (g : Program) (t : TaskCode) (k : ℕ) (way : Way) (w : Where) (m : Mar
       (field_shape g w.tree way known sp fp out fits)
       (does g t k (stacked m (pointer 1 ∷ us)) (instr.Read (s ∷ []) fp) w.line _
       (does_read (s ∷ []) fp sp 1 us (through sp fp s mode.Read (pointer 1 ∷ us) (may (pointer 1 ∷ us)))))))
-      (nothing_done g t k _))))))
+      more)))))
 
   -- a value goes into the field
   module _ (u : StaticType) (place : ℕ) (e : Expression) (f : Name) (out : StaticType) (us : List Shape) (is : IsRegion u)

@@ -1,5 +1,5 @@
 -- The code of expressions has marks: each leads from a mark to the same with a value on the stack.
-use Rattle.sound_code.proofs.Parts.{part_code, part_regions}
+use Rattle.sound_code.proofs.Parts.{cut_code, part_code, part_regions}
 use Rattle.code_laws.specs.Arguments.{IsCutName}
 use Rattle.regent_tree.specs.declared.facts.Term.TheVariants as term
 use Rattle.regent_tree.specs.Scopes.{bound_as}
@@ -7,7 +7,7 @@ use Rattle.std.proofs.lemmas.Bool.{and_parts, false≢true, or_cases}
 use Rattle.code_laws.proofs.Wider.{any_field, compared, converting, counting, signed_as}
 use Rattle.code_laws.specs.Pointers.{HasSigns, signs_counted, signs_plain, IsCounting}
 use Rattle.regent_tree.specs.declared.expression.Sign.TheVariants.{Minus}
-use Rattle.std.proofs.Common.{◌≡◌, inl, ℕ, ◌<◌, ◌≤◌, List, [], ◌∷◌, Some, refl, sym, ap, ◌∙◌, subst, arith, ⊎_elim, true, Bool, false, ◌||◌}
+use Rattle.std.proofs.Common.{◌≡◌, inl, ℕ, suc, ◌<◌, ◌≤◌, List, [], ◌∷◌, None, Some, refl, sym, ap, ◌∙◌, subst, arith, ⊎_elim, true, Bool, false, ◌||◌}
 use Rattle.std.specs.Prelude.{length}
 use Rattle.std.proofs.lemmas.List.{length-set}
 use Rattle.regent_tree.specs.declared.expression.Operator.TheVariants.{Or, And, Compare, Compute}
@@ -16,7 +16,7 @@ use Rattle.regent_tree.specs.declared.typing.StaticType.{StaticType}
 use Rattle.regent_tree.specs.declared.typing.StaticType.TheVariants.{Integer as integer_type, Truth as truth_type}
 use Rattle.regent_tree.specs.StaticTypes.{task_named}
 use Rattle.regent_tree.specs.Syntax.{Name, Expression, number_expr, truth_expr, chain_expr, prefix_expr, access_expr, call_expr, convert_expr, space_expr, Expressions, no_expr, an_expr, Links, no_link, a_link, no_step, field_step, at_step, is_null_expr, null_expr, cast_expr}
-use Rattle.regent_tree.specs.Typing.{linked_type, param_types, params_at, signed_type, parent_of}
+use Rattle.regent_tree.specs.Typing.{is_disjoint, linked_type, param_types, params_at, signed_type, parent_of}
 use Rattle.regent_tree.specs.Values.{kept_truth}
 use Rattle.task_code.specs.declared.code.TaskCode.{TaskCode}
 use Rattle.task_code.specs.declared.instr.Instr.TheVariants as instr
@@ -25,11 +25,11 @@ use Rattle.code_rules.specs.Pieces.{Piece, ◌⨟◌, line_of, over}
 use Rattle.code_rules.specs.Expressions.{expr_code, exprs_code, links_code}
 use Rattle.code_rules.specs.Instructions.{converted_code, signs_code, standing_code, one, place_of_task}
 use Rattle.code_rules.specs.Slots.{Where, bound, spare, typed, slot_named}
-use Rattle.code_laws.specs.Simple.{IsSimple, simple_integer, simple_truth, simple_space, simple_index, IsInteger, an_integer, IsTruth, a_truth_type, IsScalar, scalar_integer, SignsFit, of_a_truth, of_an_integer, not_before, minus_before, AreRegions}
+use Rattle.code_laws.specs.Simple.{IsSimple, simple_integer, simple_truth, simple_space, simple_index, IsInteger, an_integer, IsTruth, a_truth_type, IsScalar, scalar_integer, SignsFit, of_a_truth, of_an_integer, not_before, minus_before, AreRegions, IsPartition}
 use Rattle.code_laws.specs.Standing.{Stands}
 use Rattle.code_laws.specs.Steps.{Forms}
 use Rattle.code_laws.specs.Typed.{ArePassed, IsIndexed, IsTyped, AreTypedLinks}
-use Rattle.fit_rules.specs.Shapes.{Shape, awaited, integer, truth, space, Numeric, numeric_integer, numeric_truth, part, region}
+use Rattle.fit_rules.specs.Shapes.{Shape, awaited, cut_from, integer, truth, space, Numeric, numeric_integer, numeric_truth, part, region}
 use Rattle.fit_rules.specs.Marks.{Mark, stacked}
 use Rattle.fit_rules.specs.Fits.{Program}
 use Rattle.fit_rules.specs.Sound.{does_num, does_load, does_negate, does_invert, does_space}
@@ -38,10 +38,10 @@ use Rattle.fit_laws.proofs.Keeping.{get_set, set_mark}
 use Rattle.sound_code.specs.Named.{slot_at, HasSlots}
 use Rattle.sound_code.specs.Ways.{Way, shape_of, origin_in}
 use Rattle.sound_code.proofs.Granting.{allowed, May}
-use Rattle.sound_code.specs.WholeTasks.{are_whole_arguments, are_whole_links, is_whole_expression, names_region, takes_part}
+use Rattle.sound_code.proofs.WholeTasks.{are_whole_arguments, are_whole_links, is_whole_expression, names_region, takes_part}
 use Rattle.sound_code.proofs.Counting.{becomes, compares, compute_counted, number_counted, signs_counted as counted_signs, standing_counted}
-use Rattle.sound_code.proofs.Wholes.{Asks, asks_first, asks_second, Becomes, given_whole, HasFew, read_worth, value_worth, whole_argument, worth_few, worth_named, worth_settled, index_whole, region_no_partition}
-use Rattle.sound_code.proofs.Handed.{all_handed, handed, handed_unconverted, worth_handed, given_part, part_handed, same_code}
+use Rattle.sound_code.proofs.Wholes.{Asks, asks_first, asks_second, Becomes, given_whole, HasFew, read_worth, value_worth, regions_asked, whole_argument, worth_few, worth_named, worth_settled, index_whole, region_no_partition}
+use Rattle.sound_code.proofs.Handed.{all_handed, cut_handed, cut_unconverted, given_cut_is, handed, handed_unconverted, worth_handed, given_part, part_handed, same_code}
 use Rattle.sound_code.proofs.Cutting.{colours_marked}
 use Rattle.sound_code.proofs.Pointing.{behind_marked, cast_marked, element_at, null_asked, null_marked}
 use Rattle.sound_code.proofs.Handing.{calls, handed_marked}
@@ -60,6 +60,7 @@ use Rattle.sound_code.proofs.Asked.{Asked, ruled}
 use Rattle.sound_code.proofs.Calling.{onto, scalar_numeric}
 use Rattle.sound_code.proofs.Combining.{Marked, nothing_done, both, does, into, behind_kept, slot_high, storing}
 use Rattle.sound_code.proofs.Elements.{reads}
+use Rattle.sound_code.proofs.Further.{behind_further, point_further, told_point}
 use Rattle.sound_code.proofs.Narrowing.{narrow_itself, narrow_set, narrow_into, same_facts}
 use Rattle.fit_laws.proofs.Numbers.{truth_is}
 
@@ -191,6 +192,17 @@ module _ (g : Program) (t : TaskCode) (k slots : ℕ) (have : HasSlots t slots) 
       (subst (λ v. Goes us (expr_code w d (access_expr n (at_step i no_step)))
       (region (Some (space_in (bound_as w.scope.names (parent_of (bound w n).static_type)).static_type)) (part (origin_in v w.params (term.Name (parent_of (bound w n).static_type)))) ∷ us)) by code)))
 
+  -- and a partition, as one of the region of which it is
+  cut_passed : (d : ℕ) (us : List Shape) (p : StaticType) (e : Expression) (n : Name) → e ≡ access_expr n no_step → forms.keeps ≡ true → IsCutName w n →
+      IsPartition p → Goes us (expr_code w d e) (handed w p e ∷ us)
+  cut_passed d us p e n same keeps named is =
+      let u = (bound w n).static_type in
+      let by = (ruled g t k slots forms way w m asked keeps).by in
+      subst (λ y. Goes us (expr_code w d y) (handed w p y ∷ us)) (sym same)
+      (subst (λ s. Goes us (expr_code w d (access_expr n no_step)) (s ∷ us)) (sym (cut_handed w n p is ∙ given_cut_is w.params u named.partition))
+      (subst (λ v. Goes us (expr_code w d (access_expr n no_step)) (cut_from None (is_disjoint u) (origin_in v w.params (term.Name (parent_of u))) ∷ us)) by
+      (cut_code g t k slots forms way w m asked n keeps named d us)))
+
   mutual
     pub expr_marked : (d : ℕ) (e : Expression) (us : List Shape) → IsTyped forms w e → Asks forms.keeps (is_whole_expression true w e) →
         Told way w.tree w.scope e → (pc : ℕ) → Stands t.body pc (expr_code w d e) → Goes us (expr_code w d e) (shape_of (typed w e) ∷ us)
@@ -204,10 +216,10 @@ module _ (g : Program) (t : TaskCode) (k slots : ℕ) (have : HasSlots t slots) 
         let field = any_field forms.keeps w x f _ fine.3 in
         let number = counting forms.keeps _ fine.1 in
         let h = named_at way w.params m.slots w.scope.names x asked.ready.named field.named in
-        reads g t k way w m asked.known (bound w x).static_type (bound w x).place e f _ d us field.region
+        reads g t k way w m asked.known (bound w x).static_type (bound w x).place e f no_step _ d us _ field.region
         (region_named way w.params m (slot_named w x) (bound w x).static_type field.region h) number fine.2
         (touched x f _ Read field (may_read w x e f number field.region t way asked.ground told))
-        field.keeps (λ q s. expr_marked d e us fine.0 whole (told_element w.tree w.scope way x e f told) q s) pc st
+        field.keeps (λ q s. expr_marked d e us fine.0 whole (told_element w.tree w.scope way x e f told) q s) (nothing_done g t k _) pc st
     expr_marked d (prefix_expr signs e) us fine whole told pc st =
         both g t k (expr_marked d e us fine.0 whole (told_prefix w.tree w.scope way signs e told) pc st.0)
         (prefix_marked (typed w e) signs us (signed_as forms.keeps _ signs fine.1))
@@ -233,7 +245,7 @@ module _ (g : Program) (t : TaskCode) (k slots : ℕ) (have : HasSlots t slots) 
         (does g t k (stacked m (shape_of (typed w e) ∷ us)) instr.Space w.line (space ∷ us)
         (does_space _ us (scalar_numeric _ (integer_is_plain _ fine.1))))
     expr_marked d (access_expr x (field_step f no_step)) us fine whole told pc st = ⊎_elim
-        (λ a. behind_marked g t k slots forms way w m asked d x f us fine.0 a.0 told) (λ c.
+        (λ a. behind_marked g t k slots forms way w m asked d x f no_step us _ fine.0 a.0 told (nothing_done g t k _)) (λ c.
         colours_marked g t k slots forms way w m asked d x f us (bound w x).static_type (bound w x).place c.partition
         (named_at way w.params m.slots w.scope.names x asked.ready.named c.named)) fine.1
     expr_marked d (access_expr x (at_step e no_step)) us fine whole told pc st =
@@ -248,8 +260,18 @@ module _ (g : Program) (t : TaskCode) (k slots : ℕ) (have : HasSlots t slots) 
         let v = typed w (cast_expr p e) in
         both g t k (expr_marked d e us fine.3 (asks_second _ _ _ whole) (told_cast w.tree w.scope way p e told) pc st.0)
         (cast_marked g t k slots forms way w m asked (typed w e) v us fine.2 fine.1.0 fine.1.1 fine.4 (worth_few v (value_worth v (asks_first _ _ _ whole fine.0))))
-    expr_marked d (access_expr x (field_step _ (field_step _ _))) us fine whole told pc st = absurd (false≢true (whole fine.0))
-    expr_marked d (access_expr x (at_step _ (field_step _ (field_step _ _)))) us fine whole told pc st = absurd (false≢true (whole fine.0))
+    expr_marked d (access_expr x (field_step f (field_step l rest))) us fine whole told pc st =
+        behind_further g t k slots forms way w m asked fine.0 d x f (field_step l rest) us fine.1 fine.3 told
+    expr_marked d (access_expr x (at_step e (field_step f (field_step l rest)))) us fine whole told pc st =
+        let field = any_field forms.keeps w x f _ fine.4 in
+        let number = counting forms.keeps _ fine.2 in
+        let h = named_at way w.params m.slots w.scope.names x asked.ready.named field.named in
+        let first = told_point w.tree w.scope way x e f (field_step l rest) told in
+        reads g t k way w m asked.known (bound w x).static_type (bound w x).place e f (field_step l rest) _ d us _ field.region
+        (region_named way w.params m (slot_named w x) (bound w x).static_type field.region h) number fine.3
+        (touched x f _ Read field (may_read w x e f number field.region t way asked.ground first))
+        field.keeps (λ q s. expr_marked d e us fine.1 whole (told_element w.tree w.scope way x e f first) q s)
+        (point_further g t k slots forms way w m asked fine.0 (suc d) x e f (field_step l rest) us fine.6 told) pc st
     expr_marked d _ us fine whole told pc st = absurd fine
 
     pub links_marked : (d : ℕ) (u : StaticType) (ls : Links) (us : List Shape) → AreTypedLinks forms w u ls → Asks forms.keeps (are_whole_links true w ls) →
@@ -306,7 +328,7 @@ module _ (g : Program) (t : TaskCode) (k slots : ℕ) (have : HasSlots t slots) 
         let parts = told_arg w.tree w.scope way e es told in
         given_whole forms.keeps forms.takes w u p e (IsTyped forms w e) (IsIndexed forms w e)
         (Goes us (exprs_code w d (u ∷ ts) (an_expr e es)) (onto (all_handed w (p ∷ ps) (an_expr e es)) us)) (asks_first _ _ _ whole)
-        (λ enters is. both g t k (expr_marked d e us is (whole_argument forms.keeps w p e (asks_first _ _ _ whole) enters.other (part_untyped forms w e is)) parts.0 pc st.0)
+        (λ enters is. both g t k (expr_marked d e us is (whole_argument forms.keeps w p e (asks_first _ _ _ whole) enters.worth enters.other (part_untyped forms w e is)) parts.0 pc st.0)
         (both g t k (subst (λ y. Goes (shape_of (typed w e) ∷ us) (converted_code w (typed w e) u) (y ∷ us))
         (enters.same ∙ sym (worth_handed w p e enters.worth))
         (converted_marked (typed w e) u us enters.goes enters.few))
@@ -317,9 +339,13 @@ module _ (g : Program) (t : TaskCode) (k slots : ℕ) (have : HasSlots t slots) 
         (λ keeps a. both g t k (part_passed d us p e (typed w e) a.name a.index a.is keeps a.cut a.regions (subst (IsIndexed forms w) a.is a.part).1
         (λ q s. index_marked d us e a.name a.index a.is (subst (IsIndexed forms w) a.is a.part).0
         (λ b. index_whole w a.name a.index (subst (λ y. (takes_part true w y || is_whole_expression true w y) ≡ true) a.is
-        (part_asked w e a.name a.index a.is (and_parts _ _ (asks_first _ _ _ whole b)).1)))
+        (part_asked w e a.name a.index a.is (and_parts _ _ (regions_asked (typed w e) p _ a.regions (asks_first _ _ _ whole b))).1)))
         (told_at w.tree w.scope way a.name a.index (subst (Told way w.tree w.scope) a.is parts.0)) q s) pc st.0)
         (both g t k (subst (λ q. Goes (handed w p e ∷ us) q (handed w p e ∷ us)) (sym (ap (converted_code w (typed w e)) a.same ∙ same_code w (typed w e) p a.regions)) (nothing_done g t k _))
+        (args_marked d ts ps es (handed w p e ∷ us) fine.1 (asks_second _ _ _ whole) parts.1 _ st.1.1)))
+        (λ keeps a. both g t k (cut_passed d us p e a.name a.is keeps a.cut a.partition)
+        (both g t k (subst (λ q. Goes (handed w p e ∷ us) q (handed w p e ∷ us)) (sym (ap (converted_code w (typed w e)) a.same ∙ cut_unconverted w (typed w e) p a.partition))
+        (nothing_done g t k _))
         (args_marked d ts ps es (handed w p e ∷ us) fine.1 (asks_second _ _ _ whole) parts.1 _ st.1.1))) fine.0
     args_marked d [] [] (an_expr e es) us fine whole told pc st = absurd fine
     args_marked d [] (p ∷ ps) es us fine whole told pc st = absurd fine

@@ -1,26 +1,20 @@
 -- Within the limits of a text a pointer's type names four regions at most: so it is of types that are written, of those that fields
--- have, and so of all names. What is asked of tasks that hand over no partitions then holds with that too.
+-- have, and so of all names. What is asked of tasks then holds with that too.
 use Rattle.std.proofs.Common.{◌≡◌, inl, inr, ⊎_elim, ℕ, zero, suc, List, [], ◌∷◌, ◌++◌, Bool, true, false, ◌&&◌, ◌||◌, cond, None, Option, Some, refl, sym, ◌∙◌, subst, arith}
-use Rattle.std.specs.Prelude.{bytes_eq, length, slice_get}
+use Rattle.std.specs.Prelude.{bytes_eq, slice_get}
 use Rattle.std.specs.List.{list_all}
-use Rattle.std.proofs.lemmas.Bool.{false≢true, le-leb}
-use Rattle.std.proofs.lemmas.List.{length-map}
-use Rattle.regent_tree.specs.Limits.{node, nodes, counted, parts_of_arms, parts_of_block, parts_of_expression, parts_of_expressions, parts_of_form, parts_of_init, parts_of_item, parts_of_items, parts_of_links, parts_of_otherwise, parts_of_params, parts_of_pointer, parts_of_steps, parts_of_term, parts_of_type}
-use Rattle.regent_tree.specs.declared.limits.Counted.TheVariants.{Regions}
+use Rattle.std.proofs.lemmas.Bool.{false≢true}
+use Rattle.regent_tree.specs.Limits.{node, nodes, parts_of_arms, parts_of_block, parts_of_expression, parts_of_expressions, parts_of_form, parts_of_init, parts_of_item, parts_of_items, parts_of_links, parts_of_otherwise, parts_of_params, parts_of_pointer, parts_of_steps, parts_of_term, parts_of_type}
 use Rattle.regent_tree.specs.Scopes.{bound_params, bound_to, scope_of}
-use Rattle.regent_tree.specs.StaticTypes.{Looking, looked_up, task_named, type_said, written_pointer}
+use Rattle.regent_tree.specs.StaticTypes.{task_named}
 use Rattle.regent_tree.specs.Syntax.{a_link, a_statement, access_expr, alias_item, an_arm, an_expr, Arms, assert_form, assign_form, at_step, Block, both_initializer, by_field_initializer, call_expr, call_form, cast_expr, chain_expr, convert_expr, do_form, either_initializer, else_block, equal_initializer, Expression, Expressions, field_step, fill_form, for_in_form, for_to_form, Form, if_form, image_initializer, Initializer, import_item, is_null_expr, ItemForm, Links, Name, no_arm, no_else, no_expr, no_link, no_statement, no_step, null_expr, number_expr, Otherwise, plain_initializer, prefix_expr, preimage_initializer, print_form, region_initializer, return_form, space_expr, space_item, start_item, Steps, task_item, TaskTree, then_statement, Tree, truth_expr, var_form, while_form}
-use Rattle.regent_tree.specs.Typing.{arithmetic_type, operated, owned, param_types, scope_after_arms, taken_from, type_of_element, type_of_field, var_type}
+use Rattle.regent_tree.specs.Typing.{arithmetic_type, owned, param_types, scope_after_arms, taken_from, var_type}
 use Rattle.regent_tree.specs.declared.expression.Arithmetic.TheVariants.{Subtract}
 use Rattle.regent_tree.specs.declared.expression.Operator.TheVariants.{Compute}
-use Rattle.regent_tree.specs.declared.types.NumberTerm.TheVariants as number
 use Rattle.regent_tree.specs.declared.types.Param.{Param}
-use Rattle.regent_tree.specs.declared.types.PointerTerm.{PointerTerm}
 use Rattle.regent_tree.specs.declared.types.TypeTerm.{TypeTerm}
-use Rattle.regent_tree.specs.declared.types.TypeTerm.TheVariants as typing
 use Rattle.regent_tree.specs.declared.typing.Bound.{Bound}
 use Rattle.regent_tree.specs.declared.typing.StaticType.{StaticType}
-use Rattle.regent_tree.specs.declared.typing.StaticType.TheVariants.{Integer as integer_type, Truth as truth_type, Index as index_type, Pointer as pointer_type, Ispace as ispace_type, Region as region_type, Partition as partition_type, Nothing as no_type, Unknown as unknown_type}
 use Rattle.code_rules.specs.Instructions.{tasks_of}
 use Rattle.code_rules.specs.Programs.{place_of}
 use Rattle.check_rules.specs.types.Sorts.{is_partition, is_region}
@@ -30,79 +24,20 @@ use Rattle.code_laws.proofs.Names.{arms_names, else_names}
 use Rattle.code_laws.proofs.Openings.{types_cons, types_in}
 use Rattle.code_laws.proofs.Typing.{AreKept, kept_behind, kept_left, kept_right}
 use Rattle.code_laws.proofs.Wider.{any_field, begun, keepable}
-use Rattle.code_laws.specs.Simple.{a_partition_type, a_region_type, an_integer, IsInteger, IsPartition, IsRegion}
 use Rattle.code_laws.specs.Steps.{Forms}
-use Rattle.code_laws.specs.Typed.{element_field, field_behind, IsLooped, AreTypedArms, IsBegun, IsDifference, IsKeepable, IsPointing, IsTyped, IsTypedBlock, IsTypedElse, IsTypedForm}
+use Rattle.code_laws.specs.Typed.{element_field, field_behind, IsLooped, AreTypedArms, BeginsAsPart, IsBegun, IsDifference, IsIndexed, IsKeepable, IsPointing, IsTyped, IsTypedBlock, IsTypedElse, IsTypedForm}
 use Rattle.fit_rules.specs.Shapes.{Each}
-use Rattle.sound_code.specs.WholeTasks.{are_free, are_whole_arguments, are_whole_arms, are_whole_expressions, are_whole_links, is_value, is_whole_block, is_whole_domain, is_whole_else, is_whole_expression, is_whole_form, is_whole_program, is_whole_task, names_region, takes_part}
+use Rattle.sound_code.specs.FreeCalls.{are_free}
+use Rattle.sound_code.proofs.WholeTasks.{are_whole_arguments, are_whole_arms, are_whole_expressions, are_whole_links, is_value, is_whole_block, is_whole_domain, is_whole_else, is_whole_expression, is_whole_form, is_whole_program, is_whole_task, names_region, takes_part}
+use Rattle.sound_code.proofs.FewTypes.{value_few, written_few, said_few, owned_few, taken_few, counted_few, element_few, colours_few, minus_few}
 use Rattle.sound_code.proofs.Truths.{and_map, or_map, or_maps}
-use Rattle.sound_code.proofs.Wholes.{field_few, further_few, HasFew, simple_few}
-
--- ---- types
-
-value_few : (t : StaticType) → HasFew t → is_value false t ≡ true → is_value true t ≡ true
-value_few (pointer_type k sp args rs) l e = le-leb (length rs) 4 l
-value_few (integer_type w) l e = refl
-value_few truth_type l e = refl
-value_few (index_type k) l e = refl
-value_few (ispace_type k) l e = refl
-value_few (region_type k sp args r) l e = e
-value_few (partition_type d r p) l e = e
-value_few no_type l e = e
-value_few unknown_type l e = e
+use Rattle.sound_code.proofs.Wholes.{begun_part_few, field_few, further_few, HasFew, simple_few}
 
 -- the body of a loop is as it is typed, whatever the loop goes over
 looped_body : (b : Bool) (w : Where) (e : Expression) (Typed Part Body : Type 0) → IsLooped b w e Typed Part Body → Body
 looped_body false w e Typed Part Body f = f.2
 looped_body true w e Typed Part Body (inl f) = f.2
 looped_body true w e Typed Part Body (inr p) = p.1
-
-written_few : (tree : Tree) (look : Looking) (p : PointerTerm) → AreKept (parts_of_pointer p) → HasFew (written_pointer tree look p)
-written_few tree look p k = let l = k (counted Regions (length p.regions)) (inl refl) in omega (arith, l, length-map p.regions (looked_up look))
-
-said_few : (tree : Tree) (look : Looking) (i : ℕ) (t : TypeTerm) → AreKept (parts_of_term t) → HasFew (type_said tree look i t)
-said_few tree look i (typing.Number number.Int32) k = omega arith
-said_few tree look i (typing.Number number.Int64) k = omega arith
-said_few tree look i (typing.Number (number.Index c)) k = omega arith
-said_few tree look i typing.Truth k = omega arith
-said_few tree look i (typing.Pointer p) k = written_few tree look p k
-said_few tree look i (typing.Ispace c) k = omega arith
-said_few tree look i (typing.Region c u) k = omega arith
-said_few tree look i (typing.Partition d r c) k = omega arith
-
-owned_few : (i : ℕ) (t : StaticType) → HasFew t → HasFew (owned i t)
-owned_few i (pointer_type k sp args rs) l = l
-owned_few i (integer_type w) l = l
-owned_few i truth_type l = l
-owned_few i (index_type k) l = l
-owned_few i (ispace_type k) l = l
-owned_few i (region_type k sp args r) l = l
-owned_few i (partition_type d r p) l = l
-owned_few i no_type l = l
-owned_few i unknown_type l = l
-
-taken_few : (t : StaticType) → HasFew (taken_from t)
-taken_few (pointer_type k sp args rs) = omega arith
-taken_few (integer_type w) = omega arith
-taken_few truth_type = omega arith
-taken_few (index_type k) = omega arith
-taken_few (ispace_type k) = omega arith
-taken_few (region_type k sp args r) = omega arith
-taken_few (partition_type d r p) = omega arith
-taken_few no_type = omega arith
-taken_few unknown_type = omega arith
-
-counted_few : (t u : StaticType) → IsInteger t → IsInteger u → HasFew (arithmetic_type t u)
-counted_few _ _ (an_integer a) (an_integer b) = omega arith
-
-element_few : (w : Where) (u : StaticType) (e : Expression) → IsRegion u → HasFew (type_of_element w.scope u e)
-element_few w _ e (a_region_type k sp args r) = omega arith
-
-colours_few : (w : Where) (u : StaticType) (f : Name) → IsPartition u → HasFew (type_of_field w.tree u f)
-colours_few w _ f (a_partition_type d r p) = omega arith
-
-minus_few : (u v : StaticType) → IsPartition u → HasFew (operated (Compute Subtract) u v)
-minus_few _ v (a_partition_type d r p) = omega arith
 
 -- ---- names
 
@@ -177,10 +112,10 @@ mutual
       (links_few w few rest (kept_right (parts_of_expression first) (parts_of_links rest) inner)) h
   expr_few w few (prefix_expr signs e) k h = expr_few w few e (kept_right (nodes signs) (parts_of_expression e) (kept_behind node (nodes signs ++ parts_of_expression e) k)) h
   expr_few w few (access_expr n no_step) k h = value_few (bound w n).static_type (few_bound w.scope.names n few.names) h
-  expr_few w few (access_expr n (field_step f no_step)) k h = refl
+  expr_few w few (access_expr n (field_step f rest)) k h = refl
   expr_few w few (access_expr n (at_step e no_step)) k h = and_map (is_region (bound w n).static_type) (is_whole_expression false w e) _ _ (λ r. r)
       (expr_few w few e (at_kept n e no_step k)) h
-  expr_few w few (access_expr n (at_step e (field_step f no_step))) k h = expr_few w few e (at_kept n e (field_step f no_step) k) h
+  expr_few w few (access_expr n (at_step e (field_step f rest))) k h = expr_few w few e (at_kept n e (field_step f rest) k) h
   expr_few w few (call_expr task args) k h =
       and_map (are_whole_arguments false w (param_types w.tree (task_named w.tree task)) args) (are_free (task_named w.tree task) args) _ _
       (args_few w few (param_types w.tree (task_named w.tree task)) args (few.tasks task) (kept_behind node (parts_of_expressions args) k)) (λ q. q) h
@@ -213,11 +148,13 @@ mutual
   args_few w few (p ∷ ps) no_expr a k h = absurd (false≢true h)
   args_few w few (p ∷ ps) (an_expr e es) a k h =
       let here = kept_left (parts_of_expression e) (parts_of_expressions es) k in
-      and_map ((is_region p || is_value false p) && (names_region w e || (takes_part false w e || is_whole_expression false w e))) (are_whole_arguments false w ps es) _ _
+      and_map (is_partition p || ((is_region p || is_value false p) && (names_region w e || (takes_part false w e || is_whole_expression false w e))))
+      (are_whole_arguments false w ps es) _ _
+      (or_map (is_partition p) ((is_region p || is_value false p) && (names_region w e || (takes_part false w e || is_whole_expression false w e))) _
       (and_map (is_region p || is_value false p) (names_region w e || (takes_part false w e || is_whole_expression false w e)) _ _
       (or_map (is_region p) (is_value false p) _ (value_few p a.0))
       (or_map (names_region w e) (takes_part false w e || is_whole_expression false w e) _
-      (or_maps (takes_part false w e) _ (is_whole_expression false w e) _ (part_few w few e here) (expr_few w few e here))))
+      (or_maps (takes_part false w e) _ (is_whole_expression false w e) _ (part_few w few e here) (expr_few w few e here)))))
       (args_few w few ps es a.1 (kept_right (parts_of_expression e) (parts_of_expressions es) k)) h
 
 exprs_few : (w : Where) → FewIn w → (es : Expressions) → AreKept (parts_of_expressions es) → are_whole_expressions false w es ≡ true → are_whole_expressions true w es ≡ true
@@ -246,11 +183,12 @@ module _ (forms : Forms) where
       minus_few (bound w p).static_type (bound w q).static_type d.first.partition
   difference_few w _ d = absurd d
 
-  begun_few : (w : Where) → FewIn w → (e : Expression) → AreKept (parts_of_expression e) → IsBegun forms.keeps w e (IsKeepable forms.keeps w e × IsTyped forms w e) →
+  begun_few : (w : Where) → FewIn w → (e : Expression) → AreKept (parts_of_expression e) → IsBegun forms.keeps w e (IsKeepable forms.keeps w e × IsTyped forms w e) (BeginsAsPart forms.takes w e (IsIndexed forms w e)) →
       HasFew (typed w e)
   begun_few w few e k f = ⊎_elim
       (λ (b : IsKeepable forms.keeps w e × IsTyped forms w e). ⊎_elim (simple_few (typed w e)) (λ p. pointing_few w few e k p.1 b.1) (keepable forms.keeps w e b.0))
-      (difference_few w e) (begun forms.keeps w e (IsKeepable forms.keeps w e × IsTyped forms w e) f)
+      (⊎_elim (difference_few w e) (begun_part_few forms.takes w e (IsIndexed forms w e)))
+      (begun forms.keeps w e (IsKeepable forms.keeps w e × IsTyped forms w e) (BeginsAsPart forms.takes w e (IsIndexed forms w e)) f)
 
   -- ---- statements
 
@@ -338,15 +276,23 @@ module _ (forms : Forms) where
         (args_few w few (param_types w.tree (task_named w.tree task)) args (few.tasks task) k) (λ q. q) h
     form_few w few (assign_form n no_step o e) k f h = and_map (is_value false (bound w n).static_type) (is_whole_expression false w e) _ _
         (value_few (bound w n).static_type (few_bound w.scope.names n few.names)) (expr_few w few e k) h
-    form_few w few (assign_form n (field_step l no_step) o y) k f h = expr_few w few y (kept_behind node (parts_of_expression y) k) h
-    form_few w few (assign_form n (at_step e (field_step l no_step)) o y) k f h =
-        let steps = parts_of_steps (at_step e (field_step l no_step)) in
+    form_few w few (assign_form n (field_step l rest) o y) k f h = expr_few w few y (kept_right (parts_of_steps (field_step l rest)) (parts_of_expression y) k) h
+    form_few w few (assign_form n (at_step e (field_step l rest)) o y) k f h =
+        let steps = parts_of_steps (at_step e (field_step l rest)) in
+        let inner = kept_behind node (parts_of_expression e ++ parts_of_steps (field_step l rest)) (kept_left steps (parts_of_expression y) k) in
         and_map (is_whole_expression false w e) (is_whole_expression false w y) _ _
-        (expr_few w few e (kept_left (parts_of_expression e) (node ∷ []) (kept_behind node (parts_of_expression e ++ (node ∷ [])) (kept_left steps (parts_of_expression y) k))))
+        (expr_few w few e (kept_left (parts_of_expression e) (parts_of_steps (field_step l rest)) inner))
         (expr_few w few y (kept_right steps (parts_of_expression y) k)) h
     form_few w few (return_form None) k f h = refl
     form_few w few (return_form (Some e)) k f h = expr_few w few e k h
     form_few w few (assign_form n _ o y) k f h = absurd (false≢true h)
+    form_few w few (var_form n (Some t) (Some (region_initializer e u))) k f h = expr_few w few e (kept_right (parts_of_term t) (parts_of_expression e) k) h
+    form_few w few (var_form n (Some t) (Some (equal_initializer r e))) k f h = expr_few w few e (kept_right (parts_of_term t) (parts_of_expression e) k) h
+    form_few w few (var_form n (Some t) (Some (by_field_initializer r l e))) k f h = expr_few w few e (kept_right (parts_of_term t) (parts_of_expression e) k) h
+    form_few w few (var_form n (Some t) (Some (image_initializer s p r l))) k f h = refl
+    form_few w few (var_form n (Some t) (Some (preimage_initializer s p r l))) k f h = refl
+    form_few w few (var_form n (Some t) (Some (both_initializer p q))) k f h = refl
+    form_few w few (var_form n (Some t) (Some (either_initializer p q))) k f h = refl
     form_few w few _ k f h = absurd f
 
     block_few : (w : Where) → FewIn w → (b : Block) → AreKept (parts_of_block b) → IsTypedBlock forms w b → is_whole_block false w b ≡ true → is_whole_block true w b ≡ true

@@ -22,7 +22,7 @@ use Rattle.sound_code.specs.Named.{AreNamed, HasSlots}
 use Rattle.regent_tree.specs.Accesses.{space_in}
 use Rattle.regent_tree.specs.StaticTypes.{field_place}
 use Rattle.regent_tree.specs.declared.rights.Access.TheVariants.{Write}
-use Rattle.sound_code.specs.WholeTasks.{is_whole_expression}
+use Rattle.sound_code.proofs.WholeTasks.{is_whole_expression}
 use Rattle.sound_code.specs.Ways.{Way, shape_of}
 use Rattle.sound_code.proofs.Granting.{allowed}
 use Rattle.sound_code.proofs.Grounds.{HasFacts}

@@ -12,7 +12,9 @@ use Rattle.regent_tree.specs.Scopes.{Scope, knowing, known_of_type, past, scope_
 use Rattle.regent_tree.specs.Syntax.{Block, Tree, TaskTree, Name as Named}
 use Rattle.regent_tree.specs.Typing.{known_of_child, owned, scope_after_block}
 use Rattle.check_laws.specs.SoundScopes.{Falls}
-use Rattle.code_laws.proofs.KnownHeads.{head_cut, head_looping, head_made, head_named, head_past, KnowsFacts}
+use Rattle.code_laws.proofs.KnownHeads.{KnowsFacts}
+use Rattle.code_laws.proofs.KnownPlaces.{head_cut, head_looping, head_made, head_named, head_past}
+use Rattle.local_form.specs.LocalForm.{unmarked}
 use Rattle.code_laws.proofs.Names.{block_grown, Grown}
 use Rattle.regent_tree.proofs.Members.{Has, Has-append_cases, Has-append_right}
 use Rattle.task_code.specs.declared.code.TaskCode.{TaskCode}
@@ -59,7 +61,7 @@ pub record Kept (t : TaskCode) (task : TaskTree) (tree : Tree) (params : ℕ) (s
   pub next : params ≤ s.next
   pub placed : Each (IsPlaced params) s.names
   pub begun : (k : Known) → Has (scope_of tree task).known k → IsTold params (opening_facts (by_rules task) tree task) k
-  pub head : KnowsFacts tree task s
+  pub head : KnowsFacts unmarked tree task s
 
 abbrev pub Ground : TaskCode → Way → Tree → ℕ → Scope → Type 0
 Ground t all_made tree params s = Unit {0}
@@ -108,7 +110,7 @@ module _ (t : TaskCode) (task : TaskTree) (tree : Tree) (params : ℕ) where
   -- one more name, and what is known with it
   kept_named : (s : Scope) (n : Named) (u : StaticType) (by_loop : Bool) (more : List Known) → Kept t task tree params s →
       OfType params (length s.names) u → ((k : Known) → Has more k → IsTold params ks k) →
-      KnowsFacts tree task (knowing (with_name s n u by_loop) more) → Kept t task tree params (knowing (with_name s n u by_loop) more)
+      KnowsFacts unmarked tree task (knowing (with_name s n u by_loop) more) → Kept t task tree params (knowing (with_name s n u by_loop) more)
   kept_named s n u by_loop more h o tells head = record {
     sound = h.sound;
     sound_task = h.sound_task;
@@ -137,9 +139,9 @@ module _ (t : TaskCode) (task : TaskTree) (tree : Tree) (params : ℕ) where
   none_told : (more : List Known) → more ≡ [] → (k : Known) → Has more k → IsTold params ks k
   none_told more e k i = absurd (subst (λ l. Has l k) e i)
 
-  kept_looping : (s : Scope) (n : Named) (u : StaticType) → Kept t task tree params s → OfType params (length s.names) u →
+  kept_looping : (s : Scope) (n : Named) (u : StaticType) → known_of_type u ≡ [] → Kept t task tree params s → OfType params (length s.names) u →
       Kept t task tree params (with_name s n u true)
-  kept_looping s n u h o = record {
+  kept_looping s n u none h o = record {
     sound = h.sound;
     sound_task = h.sound_task;
     needs = h.needs;
@@ -148,7 +150,7 @@ module _ (t : TaskCode) (task : TaskTree) (tree : Tree) (params : ℕ) where
     next = let l = h.next in omega (arith, l);
     placed = (o, h.placed);
     begun = h.begun;
-    head = head_looping tree task s n u h.head;
+    head = head_looping tree task s n u none h.head;
   }
 
 module _ (t : TaskCode) (tree : Tree) (params : ℕ) where
@@ -156,7 +158,7 @@ module _ (t : TaskCode) (tree : Tree) (params : ℕ) where
   pub ground_looping : (way : Way) (s : Scope) (n : Named) (u : StaticType) → IsWorth u → Ground t way tree params s →
       Ground t way tree params (with_name s n u true)
   ground_looping all_made s n u h g = tt
-  ground_looping (by_rules task) s n u h g = kept_looping t task tree params s n u g (worth_itself params _ u h)
+  ground_looping (by_rules task) s n u h g = kept_looping t task tree params s n u (worth_tells s.next u h).2 g (worth_itself params _ u h)
 
   pub ground_past : (way : Way) (s inner : Scope) → ((b : Bound) → Has s.names b → Has inner.names b) → Ground t way tree params s → Ground t way tree params inner →
       Ground t way tree params (past s inner)
@@ -181,7 +183,7 @@ module _ (t : TaskCode) (tree : Tree) (params : ℕ) where
       let told = worth_tells s.next u h in
       let none = ap (λ l. l ++ known_of_type (owned s.next u)) told.0 ∙ told.1 in
       kept_named t task tree params s n (owned s.next u) false _ g (worth_placed params _ s.next u h)
-      (none_told t task tree params _ none) (head_named tree task s n (owned s.next u) _ g.head none)
+      (none_told t task tree params _ none) (head_named tree task s n (owned s.next u) _ told.1 g.head none)
 
   pub ground_said : (way : Way) (s : Scope) (n : Named) (from u : StaticType) → known_of_child s.next from ≡ [] → IsWorth u → Ground t way tree params s →
       Ground t way tree params (knowing (with_name s n u false) (known_of_child s.next from ++ known_of_type u))
@@ -189,7 +191,7 @@ module _ (t : TaskCode) (tree : Tree) (params : ℕ) where
   ground_said (by_rules task) s n from u f h g =
       let none = ap (λ l. l ++ known_of_type u) f ∙ (worth_tells s.next u h).2 in
       kept_named t task tree params s n u false _ g (worth_itself params _ u h)
-      (none_told t task tree params _ none) (head_named tree task s n u _ g.head none)
+      (none_told t task tree params _ none) (head_named tree task s n u _ (worth_tells s.next u h).2 g.head none)
 
   pub ground_declared : (way : Way) (s : Scope) (n : Named) (u : StaticType) → IsWorth u → Ground t way tree params s →
       Ground t way tree params (knowing (with_name s n u false) (known_of_type u))
@@ -197,7 +199,7 @@ module _ (t : TaskCode) (tree : Tree) (params : ℕ) where
   ground_declared (by_rules task) s n u h g =
       let none = (worth_tells s.next u h).2 in
       kept_named t task tree params s n u false _ g (worth_itself params _ u h)
-      (none_told t task tree params _ none) (head_named tree task s n u _ g.head none)
+      (none_told t task tree params _ none) (head_named tree task s n u _ (worth_tells s.next u h).2 g.head none)
 
   -- a root
   pub ground_root : (way : Way) (s : Scope) (n : Named) (k : _) (sp : ℕ) (args : _) → Ground t way tree params s →
@@ -207,7 +209,7 @@ module _ (t : TaskCode) (tree : Tree) (params : ℕ) where
       let low = g.next in
       kept_named t task tree params s n (region_type k sp args (Name s.next)) false _ g (λ l. absurd (omega (arith, l, low)))
       (λ y i. ⊎_elim (λ e. subst (IsTold params _) e (tells_made s.next low)) (λ b. absurd b) i)
-      (head_made tree task s n (region_type k sp args (Name s.next)) g.head)
+      (head_made tree task s n (region_type k sp args (Name s.next)) refl g.head)
 
   -- a partition
   pub ground_cut : (way : Way) (s : Scope) (n : Named) (d : Bool) (r : ℕ) → Falls s.next s.names → Ground t way tree params s →

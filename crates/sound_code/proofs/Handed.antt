@@ -1,14 +1,14 @@
 -- What a call hands over: numbers, regions that the task took and roots that it made, as they stand on the stack.
-use Rattle.std.proofs.Common.{◌≡◌, inl, inr, ℕ, zero, suc, ◌<◌, ◌≤◌, List, [], ◌∷◌, map, Bool, true, false, cond, Some, refl, sym, ap, ◌∙◌, subst, arith}
+use Rattle.std.proofs.Common.{◌≡◌, inl, inr, ℕ, zero, suc, ◌<◌, ◌≤◌, List, [], ◌∷◌, map, Bool, true, false, cond, None, Some, refl, sym, ap, ◌∙◌, subst, arith}
 use Rattle.std.specs.Prelude.{length, nat_le, slice_get}
 use Rattle.std.proofs.lemmas.Bool.{false≢true, le-leb, leb-true}
 use Rattle.std.proofs.lemmas.Option.{none-some, same_Some}
 use Rattle.regent_tree.specs.Accesses.{space_in}
 use Rattle.regent_tree.specs.Syntax.{Expression, Expressions, Name, TaskTree, access_expr, an_expr, at_step, no_expr, no_step}
-use Rattle.regent_tree.specs.Typing.{parent_of}
+use Rattle.regent_tree.specs.Typing.{is_disjoint, parent_of}
 use Rattle.regent_tree.specs.declared.facts.Term.TheVariants as term
 use Rattle.regent_tree.specs.declared.typing.StaticType.{StaticType}
-use Rattle.regent_tree.specs.declared.typing.StaticType.TheVariants.{Region as region_type}
+use Rattle.regent_tree.specs.declared.typing.StaticType.TheVariants.{Partition as partition_type, Region as region_type}
 use Rattle.task_code.specs.declared.code.TaskCode.{TaskCode}
 use Rattle.task_code.specs.declared.instr.Instr.TheVariants as instr
 use Rattle.machine_terms.specs.declared.value.RegionValue.{RegionValue}
@@ -19,20 +19,23 @@ use Rattle.code_rules.specs.Expressions.{count}
 use Rattle.code_rules.specs.Instructions.{converted_code}
 use Rattle.code_rules.specs.Pieces.{empty, op}
 use Rattle.code_rules.specs.Slots.{Where, bound, typed}
-use Rattle.code_laws.specs.Simple.{AreRegions, IsPartition, IsRegion, a_region_type, simple_index, simple_integer, simple_space, simple_truth, two_regions}
+use Rattle.code_laws.specs.Simple.{a_partition_type, AreRegions, IsPartition, IsRegion, a_region_type, simple_index, simple_integer, simple_space, simple_truth, two_regions}
 use Rattle.code_laws.specs.Steps.{Forms, Taking}
-use Rattle.code_laws.specs.Arguments.{IsHanded, name_at, name_of, parent_bound, part_at, part_of}
+use Rattle.code_laws.specs.Arguments.{IsCutName, IsHanded, name_at, name_of, parent_bound, part_at, part_of}
 use Rattle.code_laws.specs.Typed.{ArePassed, IsIndexed, IsTyped}
+use Rattle.check_rules.specs.types.Sorts.{type_at}
+use Rattle.code_laws.proofs.CallCuts.{regions_no_cut}
 use Rattle.code_laws.proofs.Arguments.{IsNoRegion, first_region, handed_name, named_typed, region_other}
-use Rattle.fit_rules.specs.Shapes.{argument, ComesFrom, LiesIn, part, Are, are_more, Each, Is, is_number, is_region, IsRegion as IsRegionValue, IsWhole, Origin, own_as, region, Shape, unknown, World}
+use Rattle.fit_rules.specs.Shapes.{argument, ComesFrom, cut_from, LiesIn, part, Are, are_more, Each, Is, is_number, is_region, IsRegion as IsRegionValue, IsWhole, Origin, own_as, region, Shape, unknown, World}
 use Rattle.fit_rules.specs.Marks.{Mark, stacked}
 use Rattle.fit_rules.specs.Fits.{Program}
-use Rattle.fit_rules.specs.Sound.{does_load, Settled, settled_region}
+use Rattle.fit_rules.specs.Sound.{does_load, Settled, settled_cut, settled_region}
 use Rattle.fit_laws.proofs.Lookup.{any_region}
 use Rattle.marked_code.proofs.Placed.{below}
 use Rattle.sound_code.specs.Named.{slot_at}
 use Rattle.sound_code.specs.Ways.{by_rules, shape_in, shape_of}
-use Rattle.sound_code.specs.WholeTasks.{are_whole_arguments}
+use Rattle.sound_code.proofs.WholeTasks.{are_whole_arguments}
+use Rattle.sound_code.proofs.NoCuts.{worth_no_cut}
 use Rattle.sound_code.proofs.Wholes.{Asks, asks_first, asks_second, given_whole, IsWorth, worth_pointer, worth_settled, worth_simple}
 use Rattle.sound_code.proofs.Parts.{part_regions}
 use Rattle.sound_code.proofs.Combining.{does, Marked}
@@ -57,10 +60,16 @@ given_in params u = shape_of u
 abbrev pub given_part : ℕ → ℕ → ℕ → Shape
 given_part params sp i = region (Some sp) (part (cond (nat_le params i) (own_as i) (argument i)))
 
+-- and a partition is of such a region
+abbrev pub given_cut : ℕ → StaticType → Shape
+given_cut params (partition_type d r p) = cut_from None d (cond (nat_le params r) (own_as r) (argument r))
+given_cut params u = shape_of u
+
 -- the shape of an argument for a parameter of a type
 abbrev pub handed : Where → StaticType → Expression → Shape
 handed w (region_type k sp args r) (access_expr n no_step) = given_in w.params (bound w n).static_type
 handed w (region_type k sp args r) (access_expr n (at_step e no_step)) = given_part w.params sp (parent_of (bound w n).static_type)
+handed w (partition_type d r p) (access_expr n no_step) = given_cut w.params (bound w n).static_type
 handed w p e = shape_of p
 
 abbrev pub all_handed : Where → List StaticType → Expressions → List Shape
@@ -82,7 +91,20 @@ pub part_handed : (w : Where) (n : Name) (e : Expression) (u p : StaticType) →
     handed w p (access_expr n (at_step e no_step)) ≡ given_part w.params (space_in p) (parent_of (bound w n).static_type)
 part_handed w n e _ _ (two_regions c d sp args brgs r q) = refl
 
--- a region isn't converted
+pub cut_handed : (w : Where) (n : Name) (p : StaticType) → IsPartition p → handed w p (access_expr n no_step) ≡ given_cut w.params (bound w n).static_type
+cut_handed w n _ (a_partition_type d r q) = refl
+
+pub given_cut_is : (params : ℕ) (u : StaticType) → IsPartition u →
+    given_cut params u ≡ cut_from None (is_disjoint u) (cond (nat_le params (parent_of u)) (own_as (parent_of u)) (argument (parent_of u)))
+given_cut_is params _ (a_partition_type d r p) = refl
+
+cut_settled : (params : ℕ) (u : StaticType) → IsPartition u → Settled (given_cut params u)
+cut_settled params _ (a_partition_type d r p) = settled_cut None d _
+
+-- a region isn't converted, nor is a partition
+pub cut_unconverted : (w : Where) (u p : StaticType) → IsPartition p → converted_code w u p ≡ empty
+cut_unconverted w u _ (a_partition_type d r q) = refl
+
 pub same_code : (w : Where) (u p : StaticType) → AreRegions u p → converted_code w u p ≡ empty
 same_code w _ _ (two_regions c d sp args brgs r q) = refl
 
@@ -109,7 +131,8 @@ module _ (forms : Forms) (w : Where) where
         let n = handed_name y w t p e q in
         subst (λ a. Settled (handed w p a)) (sym n.1)
         (subst Settled (sym (region_handed w n.0 _ p n.4)) (given_settled w.params _ (first_region _ p n.4))))
-        (λ b a. subst (λ y. Settled (handed w p y)) (sym a.is) (subst Settled (sym (part_handed w a.name a.index _ p a.regions)) (settled_region _ _))) h.0,
+        (λ b a. subst (λ y. Settled (handed w p y)) (sym a.is) (subst Settled (sym (part_handed w a.name a.index _ p a.regions)) (settled_region _ _)))
+        (λ b a. subst (λ y. Settled (handed w p y)) (sym a.is) (subst Settled (sym (cut_handed w a.name p a.partition)) (cut_settled w.params _ a.cut.partition))) h.0,
     all_settled ts ps es h.1 (asks_second _ _ _ asks),
   )
   all_settled [] [] (an_expr e es) h asks = absurd h
@@ -146,44 +169,43 @@ module _ (g : Program) (t : TaskCode) (k line params : ℕ) (m : Mark) where
 
 -- ---- what a handed value is
 
--- It is a region of the field space: the root that the task made last under a number, or that of an argument.
+-- the root that the task made last under a number, or the region of an argument
+pub record IsOf (x : World) (params i : ℕ) (r : RegionValue) : Type 0 where
+  pub mine : params ≤ i → IsWhole x r × (x.last i ≡ Some r.root.0)
+  pub taken : i < params → region_in (slice_get x.args i) ≡ Some r
+
+pub of_number : (x : World) (params i : ℕ) (r : RegionValue) → ComesFrom x (cond (nat_le params i) (own_as i) (argument i)) r → IsOf x params i r
+of_number x params i r = of (nat_le params i) refl
+  where
+    of : (b : Bool) → nat_le params i ≡ b → ComesFrom x (cond b (own_as i) (argument i)) r → IsOf x params i r
+    of true e c = record { mine = λ l. c; taken = λ l. absurd (omega (arith, l, leb-true params i e)) }
+    of false e c = record { mine = λ l. absurd (omega (arith, l, is_below params i e)); taken = λ l. c }
+
+-- it is the region of its number
+pub region_numbered : (x : World) (params i : ℕ) (r : RegionValue) → IsOf x params i r → region_at x params i ≡ meant r
+region_numbered x params i r q = elim (below i params) [
+  | inl low ↦ low_region x params i low ∙ ap taken_at (q.taken low)
+  | inr high ↦
+      let own = q.mine high in
+      high_region x params i high ∙ ap (made_at x) own.1 ∙ ap (λ ps. record { root = r.root.0; points = ps }) (sym own.0.1)
+]
+
+-- a value is such a region, of the field space
 pub record IsGiven (x : World) (params sp i : ℕ) (v : Value) : Type 0 where
   pub it : RegionValue
   pub is : v ≡ value.Region it
   pub of_space : IsRegionValue x (Some sp) unknown it
-  pub mine : params ≤ i → IsWhole x it × (x.last i ≡ Some it.root.0)
-  pub taken : i < params → region_in (slice_get x.args i) ≡ Some it
+  pub of : IsOf x params i it
 
 pub is_given_region : (x : World) (params sp i : ℕ) (v : Value) → Is x (region (Some sp) (cond (nat_le params i) (own_as i) (argument i))) v →
     IsGiven x params sp i v
-is_given_region x params sp i = of (nat_le params i) refl
-  where
-    of : (b : Bool) → nat_le params i ≡ b → (v : Value) → Is x (region (Some sp) (cond b (own_as i) (argument i))) v → IsGiven x params sp i v
-    of true e _ (is_region _ _ r q) = record {
-      it = r;
-      is = refl;
-      of_space = any_region x (Some sp) (own_as i) r q;
-      mine = λ l. q.origin;
-      taken = λ l. absurd (omega (arith, l, leb-true params i e));
-    }
-    of true e _ (is_number _ z h) = absurd h
-    of false e _ (is_region _ _ r q) = record {
-      it = r;
-      is = refl;
-      of_space = any_region x (Some sp) (argument i) r q;
-      mine = λ l. absurd (omega (arith, l, is_below params i e));
-      taken = λ l. q.origin;
-    }
-    of false e _ (is_number _ z h) = absurd h
-
--- it is the region of its number
-pub region_numbered : (x : World) (params sp i : ℕ) (v : Value) (q : IsGiven x params sp i v) → region_at x params i ≡ meant q.it
-region_numbered x params sp i v q = elim (below i params) [
-  | inl low ↦ low_region x params i low ∙ ap taken_at (q.taken low)
-  | inr high ↦
-      let own = q.mine high in
-      high_region x params i high ∙ ap (made_at x) own.1 ∙ ap (λ ps. record { root = q.it.root.0; points = ps }) (sym own.0.1)
-]
+is_given_region x params sp i _ (is_region _ _ r q) = record {
+  it = r;
+  is = refl;
+  of_space = any_region x (Some sp) (cond (nat_le params i) (own_as i) (argument i)) r q;
+  of = of_number x params i r q.origin;
+}
+is_given_region x params sp i _ (is_number _ z h) = absurd h
 
 -- a region of the field space
 pub record IsAny (x : World) (sp : ℕ) (v : Value) : Type 0 where
@@ -216,6 +238,9 @@ pub given_within : (x : World) (params sp i : ℕ) (v : Value) → Is x (given_p
 given_within x params sp i _ (is_region _ _ r h) q e = subst (IsGivenPart x params i) (same_Some r q e) (record { whole = h.origin.0; from = h.origin.1; inside = h.origin.2 })
 given_within x params sp i _ (is_number _ z h) q e = absurd h
 
+region_cut : (u : StaticType) → IsRegion u → IsPartition u → ⊥
+region_cut _ (a_region_type k sp args r) c = elim c [ ]
+
 -- ---- the argument at a place
 
 pub record IsArgument (x : World) (ws : List Value) (k : ℕ) (s : Shape) : Type 0 where
@@ -238,7 +263,9 @@ module _ (forms : Forms) (w : Where) (x : World) where
         it = v;
         at = refl;
         of = subst (λ s. Is x s v) (ap (handed w p) b.1 ∙ region_handed w b.0 _ p b.4 ∙ ap (λ a. given_in w.params (bound w a).static_type) one) i;
-      }) (λ b a. absurd (none-some n (sym (ap name_of a.is) ∙ en))) h.0
+      }) (λ b a. absurd (none-some n (sym (ap name_of a.is) ∙ en)))
+      (λ b a. absurd (region_cut (bound w n).static_type r (subst (λ y. IsPartition (bound w y).static_type)
+      (same_Some a.name n (sym (ap name_of a.is) ∙ en)) a.cut.partition))) h.0
   argument_at (t ∷ ts) (p ∷ ps) (an_expr e es) _ (suc k) n h asks (are_more _ v _ vs i a) en r =
       let more = argument_at ts ps es vs k n h.1 (asks_second _ _ _ asks) a en r in record { it = more.it; at = more.at; of = more.of }
   argument_at ts ps no_expr ws k n h asks a en r = absurd (none-some n en)
@@ -255,9 +282,6 @@ module _ (forms : Forms) (w : Where) (x : World) where
   part_typed : (e : Expression) (q : Name × Expression) → part_of e ≡ Some q → IsTyped forms w e → IsPartition (bound w q.0).static_type → ⊥
   part_typed (access_expr n (at_step i no_step)) q e f c =
       region_cut (bound w n).static_type f.4 (subst (λ (y : Name × Expression). IsPartition (bound w y.0).static_type) (sym (same_Some (n, i) q e)) c)
-    where
-      region_cut : (u : StaticType) → IsRegion u → IsPartition u → ⊥
-      region_cut _ (a_region_type k sp args r) c = elim c [ ]
   part_typed _ q e f c = absurd (none-some q e)
 
   pub part_argument_at : (ts ps : List StaticType) (es : Expressions) (ws : List Value) (k : ℕ) (q : Name × Expression) → ArePassed forms w ts ps es →
@@ -276,7 +300,7 @@ module _ (forms : Forms) (w : Where) (x : World) where
           at = refl;
           of = subst (λ s. Is x s v) (ap (handed w p) d.is ∙ part_handed w d.name d.index _ p d.regions) i;
         };
-      })) h.0
+      })) (λ b d. absurd (none-some q (sym (ap part_of d.is) ∙ eq))) h.0
   part_argument_at (t ∷ ts) (p ∷ ps) (an_expr e es) _ (suc k) q h asks (are_more _ v _ vs i a) eq c =
       let more = part_argument_at ts ps es vs k q h.1 (asks_second _ _ _ asks) a eq c in
       record { space = more.space; same = more.same; given = record { it = more.given.it; at = more.given.at; of = more.given.of } }
@@ -284,3 +308,33 @@ module _ (forms : Forms) (w : Where) (x : World) where
   part_argument_at [] [] (an_expr e es) ws k q h asks a eq c = absurd h
   part_argument_at [] (p ∷ ps) (an_expr e es) ws k q h asks a eq c = absurd h
   part_argument_at (t ∷ ts) [] (an_expr e es) ws k q h asks a eq c = absurd h
+
+  -- and of a partition
+  pub record IsCutGiven (es : Expressions) (ws : List Value) (k : ℕ) : Type 0 where
+    pub name : Name
+    pub at : name_at es k ≡ Some name
+    pub is : IsCutName w name
+    pub given : IsArgument x ws k (given_cut w.params (bound w name).static_type)
+
+  pub cut_argument_at : (ts ps : List StaticType) (es : Expressions) (ws : List Value) (k : ℕ) → ArePassed forms w ts ps es →
+      Asks forms.keeps (are_whole_arguments true w ps es) → Are x (all_handed w ps es) ws → IsPartition (type_at ps k) → IsCutGiven es ws k
+  cut_argument_at (t ∷ ts) (p ∷ ps) (an_expr e es) _ zero h asks (are_more _ v _ vs i a) c =
+      given_whole forms.keeps forms.takes w t p e (IsTyped forms w e) (IsIndexed forms w e) (IsCutGiven (an_expr e es) (v ∷ vs) 0) (asks_first _ _ _ asks)
+      (λ enters is. absurd (worth_no_cut p enters.worth c))
+      (λ y takes q. let b = handed_name y w t p e q in absurd (regions_no_cut (bound w b.0).static_type p b.4 c))
+      (λ b d. absurd (regions_no_cut (typed w e) p d.regions c))
+      (λ b d. record {
+        name = d.name;
+        at = ap name_of d.is;
+        is = d.cut;
+        given = record { it = v; at = refl; of = subst (λ s. Is x s v) (ap (handed w p) d.is ∙ cut_handed w d.name p d.partition) i };
+      }) h.0
+  cut_argument_at (t ∷ ts) (p ∷ ps) (an_expr e es) _ (suc k) h asks (are_more _ v _ vs i a) c =
+      let more = cut_argument_at ts ps es vs k h.1 (asks_second _ _ _ asks) a c in
+      record { name = more.name; at = more.at; is = more.is; given = record { it = more.given.it; at = more.given.at; of = more.given.of } }
+  cut_argument_at [] [] no_expr ws zero h asks a c = absurd (elim c [ ])
+  cut_argument_at [] [] no_expr ws (suc k) h asks a c = absurd (elim c [ ])
+  cut_argument_at [] [] (an_expr e es) ws k h asks a c = absurd h
+  cut_argument_at [] (p ∷ ps) es ws k h asks a c = absurd h
+  cut_argument_at (t ∷ ts) [] es ws k h asks a c = absurd h
+  cut_argument_at (t ∷ ts) (p ∷ ps) no_expr ws k h asks a c = absurd h

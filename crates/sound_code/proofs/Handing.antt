@@ -16,7 +16,7 @@ use Rattle.regent_tree.specs.Facts.{is_subregion}
 use Rattle.regent_tree.specs.Scopes.{scope_of}
 use Rattle.regent_tree.specs.StaticTypes.{space_at, task_named}
 use Rattle.regent_tree.specs.Syntax.{Expression, Expressions, Name, TaskTree, an_expr, no_expr}
-use Rattle.regent_tree.specs.Typing.{param_types, parent_of}
+use Rattle.regent_tree.specs.Typing.{is_disjoint, param_types, parent_of}
 use Rattle.regent_tree.specs.declared.facts.Term.{Term}
 use Rattle.regent_tree.specs.declared.facts.Term.TheVariants as term
 use Rattle.regent_tree.specs.declared.typing.StaticType.{StaticType}
@@ -32,14 +32,14 @@ use Rattle.code_rules.specs.Expressions.{count, expr_code}
 use Rattle.code_rules.specs.Instructions.{one, place_of_task}
 use Rattle.code_rules.specs.Programs.{task_code}
 use Rattle.code_rules.specs.Slots.{Where, bound, slot_named, typed}
-use Rattle.code_laws.specs.Simple.{AreRegions, IsRegion, a_region_type, term_in, two_regions}
+use Rattle.code_laws.specs.Simple.{a_partition_type, AreRegions, IsPartition, IsRegion, a_region_type, term_in, two_regions}
 use Rattle.code_laws.specs.Steps.{Forms, Taking}
-use Rattle.code_laws.specs.Taking.{MayDo, allows, is_need, is_part, known_of_pairs, pairs_in}
+use Rattle.code_laws.specs.Taking.{MayDo, allows, is_need, is_part, known_of_pairs, pairs_in, up_itself}
 use Rattle.code_laws.specs.Arguments.{AreMet, IsCutName, IsHanded, IsMet, IsMetAt, IsMetPart, name_at, parent_bound, part_at}
 use Rattle.code_laws.specs.Typed.{ArePassed, IsCallable, IsIndexed, IsTyped}
 use Rattle.code_laws.proofs.Arguments.{handed_name}
 use Rattle.code_laws.proofs.Calling.{code_there}
-use Rattle.fit_rules.specs.Shapes.{ComesFrom, Among, Are, are_more, are_none, awaited, Each, Is, is_region, IsRegion as IsRegionValue, region, Shape, World, unknown, argument, own_as}
+use Rattle.fit_rules.specs.Shapes.{ComesFrom, Among, Are, are_more, are_none, awaited, Each, Is, cut_from, is_cut, is_number, is_partition, is_region, IsRegion as IsRegionValue, Origin, partition, region, Shape, World, unknown, argument, own_as}
 use Rattle.fit_rules.specs.Marks.{Mark, stacked, Suits}
 use Rattle.fit_rules.specs.Fits.{count_at, Declares, declares_it, made_it, Program}
 use Rattle.fit_rules.specs.Ends.{called, IsNeeded}
@@ -49,7 +49,8 @@ use Rattle.fit_laws.proofs.Within.{covered_needs_are_within}
 use Rattle.marked_code.proofs.Placed.{below}
 use Rattle.marked_code.specs.Marked.{leads_calling, typed_op}
 use Rattle.sound_code.specs.Ways.{by_rules, shape_in, shape_of, Way, opening_facts}
-use Rattle.sound_code.specs.WholeTasks.{are_free, are_whole_arguments}
+use Rattle.sound_code.specs.FreeCalls.{are_free}
+use Rattle.sound_code.proofs.WholeTasks.{are_whole_arguments}
 use Rattle.sound_code.proofs.Wholes.{Asks, asks_first, asks_second, given_whole, IsWorth, worth_named}
 use Rattle.sound_code.proofs.Parts.{parent_named}
 use Rattle.sound_code.proofs.Asked.{Asked, Hands, hands_none, hands_taken, Known}
@@ -58,13 +59,20 @@ use Rattle.sound_code.proofs.Combining.{both, Marked, nothing_done}
 use Rattle.sound_code.proofs.Elements.{field_there}
 use Rattle.sound_code.proofs.Parameters.{AreAt, IsLow, IsOwnAt, params_low, params_own}
 use Rattle.sound_code.proofs.Placing.{named_at}
-use Rattle.sound_code.proofs.Handed.{any_of, given_part, given_within, is_below, IsPartGiven, part_argument_at, part_handed, IsAny, IsArgument, all_handed, all_long, all_settled, any_given, argument_at, given_in, handed, is_given_region, region_handed, region_loaded, worth_handed, worths_handed}
+use Rattle.check_rules.specs.rules.Partitions.{mispartition_in}
+use Rattle.check_rules.specs.types.KnownTypes.{known_types}
+use Rattle.check_rules.specs.types.Params.{types_in_order}
+use Rattle.check_rules.specs.types.TypedForms.{calling}
+use Rattle.expression_laws.proofs.Calls.{call_parts}
+use Rattle.sound_code.proofs.Dividing.{AreFlagged, flags_told, IsFlagged}
+use Rattle.sound_code.proofs.Handed.{any_of, cut_handed, given_cut, given_part, given_within, is_below, IsPartGiven, part_argument_at, part_handed, IsAny, IsArgument, all_handed, all_long, all_settled, any_given, argument_at, given_in, handed, is_given_region, region_handed, region_loaded, worth_handed, worths_handed}
 use Rattle.sound_code.proofs.Grounds.{Ground, HasFacts, Kept}
 use Rattle.sound_code.proofs.Interpreting.{not_below}
 use Rattle.sound_code.proofs.Told.{ToldCall}
 use Rattle.sound_code.proofs.Lying.{above, is_lower, Lower}
 use Rattle.sound_code.proofs.Claims.{pairs_told}
 use Rattle.sound_code.proofs.Constraining.{facts_told}
+use Rattle.sound_code.proofs.Scoped.{ScopedBy}
 
 -- ---- what the called task needs
 
@@ -165,9 +173,9 @@ module _ (g : Program) (t : TaskCode) (w : Where) (task : TaskTree) (known : Kno
         let q = is_given_region x w.params sp i a.it a.of in
         let one : q.it ≡ r = same_Some q.it r (sym (ap region_in (a.at ∙ ap Some q.is)) ∙ er) in
         subst (λ (d : RegionValue). has d.points p ≡ true → IsGranted g x t d.root.0 need.field p need.mode) one (λ ip. elim (below i w.params) [
-          | inl low ↦ declared need i q.it p low (may (omega (arith, low, ep, params))) (q.taken low) ip
+          | inl low ↦ declared need i q.it p low (may i (up_itself i) (omega (arith, low, ep, params))) (q.of.taken low) ip
           | inr high ↦
-              let mine = (q.mine high).0 in
+              let mine = (q.of.mine high).0 in
               inl (made_it need.mode mine.0 (subst (λ xs. has xs p ≡ true) mine.1 ip) (has_field q.it.root.0 sp need.field q.of_space.space l))
         ])
     granted_of need _ ws (a_region_type c sp args (term.Child q d)) l may a r er p = absurd may
@@ -187,7 +195,7 @@ module _ (g : Program) (t : TaskCode) (w : Where) (task : TaskTree) (known : Kno
         x.spaces whole.root.0 ≡ sp → need.field < length (space_at w.tree sp).fields → MayDo (Some y) (term.Name i) need.field need.mode → (p : ℕ) →
         has whole.points p ≡ true → IsGranted g x t whole.root.0 need.field p need.mode
     whole_granted need sp i whole false e from s l may p ip =
-        let low = is_below w.params i e in declared need i whole p low (may (omega (arith, low, ep, params))) from ip
+        let low = is_below w.params i e in declared need i whole p low (may i (up_itself i) (omega (arith, low, ep, params))) from ip
     whole_granted need sp i whole true e from s l may p ip =
         inl (made_it need.mode from.0.0 (subst (λ xs. has xs p ≡ true) from.0.1 ip) (has_field whole.root.0 sp need.field s l))
 
@@ -221,11 +229,29 @@ module _ (forms : Forms) (w : Where) (u : TaskTree) (n : ℕ) (x : World) (all :
   worth_taken : (p : StaticType) (v : Value) → IsWorth p → Is x (shape_of p) v → Is (called x all) (shape_in (by_rules u) n p) v
   worth_taken p v h i = subst (λ s. Is (called x all) s v) (sym (worth_named (by_rules u) n p h)) (worth_is x (called x all) p v h i)
 
-  are_taken : (k : ℕ) (ts ps : List StaticType) (es : Expressions) (ws : List Value) → Each (IsLow n) ps → AreAt IsOwnAt k ps →
+  part_called : (r : RegionValue) → IsRegionValue x None unknown r → IsRegionValue (called x all) None unknown r
+  part_called r i = record { there = i.there; space = i.space; set = i.set; points = i.points; origin = tt }
+
+  cut_taken : (b p : StaticType) (v : Value) → IsPartition b → IsPartition p → (is_disjoint p ≡ true → is_disjoint b ≡ true) → Is x (given_cut w.params b) v →
+      Is (called x all) (shape_in (by_rules u) n p) v
+  cut_taken _ _ v (a_partition_type d r o) (a_partition_type e s q) flag i = of _ v i
+    where
+      of : (o : Origin) (v : Value) → Is x (cut_from None d o) v → Is (called x all) (partition None e) v
+      of o _ (is_cut _ _ _ c h f) = is_partition None e c (record {
+        flag = λ y. h.flag (flag y);
+        apart = h.apart;
+        there = h.there;
+        space = tt;
+        count = h.count;
+        regions = λ r a. ((h.regions r a).0, part_called r (h.regions r a).1);
+      })
+      of o _ (is_number _ z h) = absurd h
+
+  are_taken : (k : ℕ) (ts ps : List StaticType) (es : Expressions) (ws : List Value) → Each (IsLow n) ps → AreAt IsOwnAt k ps → AreFlagged w ps es →
       ((i : ℕ) (v : Value) → slice_get ws i ≡ Some v → slice_get all (k + i) ≡ Some v) → ArePassed forms w ts ps es →
       Asks forms.keeps (are_whole_arguments true w ps es) → Are x (all_handed w ps es) ws → Are (called x all) (map (shape_in (by_rules u) n) ps) ws
-  are_taken k [] [] no_expr _ l o at h asks are_none = are_none
-  are_taken k (t ∷ ts) (p ∷ ps) (an_expr e es) _ l o at h asks (are_more _ v _ vs i a) = are_more _ v _ vs
+  are_taken k [] [] no_expr _ l o flags at h asks are_none = are_none
+  are_taken k (t ∷ ts) (p ∷ ps) (an_expr e es) _ l o flags at h asks (are_more _ v _ vs i a) = are_more _ v _ vs
       (given_whole forms.keeps forms.takes w t p e (IsTyped forms w e) (IsIndexed forms w e) (Is (called x all) (shape_in (by_rules u) n p) v)
       (asks_first _ _ _ asks)
       (λ enters is. worth_taken p v enters.worth (subst (λ b. Is x b v) (worth_handed w p e enters.worth) i))
@@ -238,13 +264,16 @@ module _ (forms : Forms) (w : Where) (u : TaskTree) (n : ℕ) (x : World) (all :
       (λ keeps b.
       let here : k + 0 ≡ k = omega arith in
       region_taken (typed w e) p v k b.regions l.0 o.0 (subst (λ j. slice_get all j ≡ Some v) here (at 0 v refl))
-      (any_of x (space_in p) _ v (subst (λ s. Is x s v) (ap (handed w p) b.is ∙ part_handed w b.name b.index _ p b.regions) i))) h.0)
-      (are_taken (suc k) ts ps es vs l.1 o.1 (λ j z e.
+      (any_of x (space_in p) _ v (subst (λ s. Is x s v) (ap (handed w p) b.is ∙ part_handed w b.name b.index _ p b.regions) i)))
+      (λ keeps b. cut_taken (bound w b.name).static_type p v b.cut.partition b.partition
+      (subst (λ y. IsFlagged p (typed w y)) b.is flags.0 b.partition b.cut.partition)
+      (subst (λ s. Is x s v) (ap (handed w p) b.is ∙ cut_handed w b.name p b.partition) i)) h.0)
+      (are_taken (suc k) ts ps es vs l.1 o.1 flags.1 (λ j z e.
       let next : k + suc j ≡ suc k + j = omega arith in subst (λ c. slice_get all c ≡ Some z) next (at (suc j) z e)) h.1 (asks_second _ _ _ asks) a)
-  are_taken k [] [] (an_expr e es) ws l o at h asks a = absurd h
-  are_taken k [] (p ∷ ps) es ws l o at h asks a = absurd h
-  are_taken k (t ∷ ts) [] es ws l o at h asks a = absurd h
-  are_taken k (t ∷ ts) (p ∷ ps) no_expr ws l o at h asks a = absurd h
+  are_taken k [] [] (an_expr e es) ws l o flags at h asks a = absurd h
+  are_taken k [] (p ∷ ps) es ws l o flags at h asks a = absurd h
+  are_taken k (t ∷ ts) [] es ws l o flags at h asks a = absurd h
+  are_taken k (t ∷ ts) (p ∷ ps) no_expr ws l o flags at h asks a = absurd h
 
 -- ---- calls
 
@@ -255,7 +284,7 @@ module _ (g : Program) (t : TaskCode) (k slots : ℕ) (forms : Forms) (way : Way
     where
       of : Hands forms t way w.tree → Marked g t k (stacked m us) (expr_code w d e) (stacked m (handed w p e ∷ us))
       of (hands_none none) = absurd (none-some y (sym none ∙ takes))
-      of (hands_taken task z by e1 e2 e3 e4) =
+      of (hands_taken task z by e1 e2 e3 e4 e5) =
           let q = handed_name y w u p e h in
           let b = bound w q.0 in
           subst (λ a. Marked g t k (stacked m us) (expr_code w d a) (stacked m (handed w p a ∷ us))) (sym q.1)
@@ -303,14 +332,17 @@ module _ (g : Program) (t : TaskCode) (k slots : ℕ) (forms : Forms) (way : Way
         let known = subst (λ v. Known v g w.tree) by asked.known in
         let kept = subst (λ v. Ground t v w.tree w.params w.scope) by asked.ground in
         let facts = subst (λ v. HasFacts v w.tree m.facts) by asked.facts in
+        let call = subst (λ v. ToldCall v w.tree w.scope name es) by told in
+        let flags = flags_told w task kept.sound call.0 (known_types w.tree w.scope es) types es call.1
+        (subst (λ ts. mispartition_in (known_types w.tree w.scope es) ts (known_types w.tree w.scope es) ≡ false) (ap types_in_order (kept.sound.params name))
+        (call_parts w.tree task w.scope (calling name (known_types w.tree w.scope es)) call.2).parted) in
         let of = need_place y x ws a in (
           subst (λ v. Suits (called x ws) (length callee.params) v (ws ++ replicate ((task_code w.tree callee).slots - length ws) (value.Number (pos 0))) [])
               (sym (known.begins place callee is.0))
               (opening_suits (by_rules callee) w.tree callee x ws
-              (are_taken forms w callee (length callee.params) x ws 0 ts types es ws (params_low w.tree callee) (params_own w.tree callee) (λ i v e.
+              (are_taken forms w callee (length callee.params) x ws 0 ts types es ws (params_low w.tree callee) (params_own w.tree callee) flags (λ i v e.
               let from : 0 + i ≡ i = omega arith in subst (λ j. slice_get ws j ≡ Some v) (sym from) e) passed whole a)
-              (facts_told task t w kept before facts asked.params x vs st ws knows s forms y takes name ts es is passed whole free a
-              (subst (λ v. ToldCall v w.tree w.scope name es) by told))),
+              (facts_told task t w kept before facts asked.params x vs st ws knows s forms y takes name ts es (λ q. subst (λ v. ScopedBy v w.scope.names) by (asked.scoped q)) is passed whole free a call)),
           each_needed (task_code w.tree callee).needs (λ n h. ⊎_elim
               (λ (q : IsNeedOf y w n (name_at es n.param)).
               needed_of g t w task known asked.params kept before facts y params needs within x vs st s n (bound w q.name).static_type ws q.of_region q.field (of n q))
@@ -342,7 +374,7 @@ module _ (g : Program) (t : TaskCode) (k slots : ℕ) (forms : Forms) (way : Way
             let worths = passed_worth forms none w ts types es passed whole in
             subst (Opens g t before place (task_code w.tree callee)) (sym (worths_handed forms w types es worths (passed_many forms w ts types es passed)))
             (opens g t k way w asked.known before place callee is.0 (nothing_needed forms.keeps forms.takes none w types es (task_code w.tree callee).needs whole is.1) worths)
-        of (hands_taken task y by e1 e2 e3 e4) = taken_opens task y by e1 e2 e3 e4
+        of (hands_taken task y by e1 e2 e3 e4 e5) = taken_opens task y by e1 e2 e3 e4
 
     -- a call with its arguments on the stack
     pub calls : Marked g t k before (one w (instr.Call place (count es))) (stacked m (awaited (g.results place) ∷ us))

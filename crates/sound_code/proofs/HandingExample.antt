@@ -2,7 +2,9 @@
 use Rattle.std.proofs.Common.{◌≡◌, ℕ, zero, suc, pos, [], ◌∷◌, Some, inl, inr, false, true, refl, sym, subst, arith, ap}
 use Rattle.std.proofs.lemmas.Int.{ints}
 use Rattle.std.proofs.lemmas.Option.{none-some, same_Some}
+use Rattle.lane_kernels.specs.declared.numbers.Mode.TheVariants as mode
 use Rattle.lane_kernels.specs.declared.numbers.Width.TheVariants.{W64}
+use Rattle.code_laws.proofs.Under.{made_may, taken_may}
 use Rattle.code_laws.specs.Handing.{AreTypedBy, IsTypedBy}
 use Rattle.code_laws.specs.Programs.{gives_nothing, gives_scalar}
 use Rattle.code_laws.specs.Simple.{a_region_type, a_space_type, an_integer, fits_64, number_integer, scalar_integer, simple_integer, two_integers, two_regions}
@@ -25,7 +27,7 @@ tasks zero t e = subst (IsTypedBy true false hands_program) (same_Some _ t e) (r
   typed = (
     (
       two_integers _ _,
-      (omega (arith, ints), number_integer _, refl, record { named = refl; region = a_region_type _ _ _ _; field = omega arith; keeps = fits_64 }, λ low. refl),
+      (omega (arith, ints), number_integer _, refl, record { named = refl; region = a_region_type _ _ _ _; field = omega arith; keeps = fits_64 }, taken_may _ _ 0 mode.Read (omega arith) refl),
     ),
     tt,
   );
@@ -41,7 +43,7 @@ tasks (suc zero) t e = subst (IsTypedBy true false hands_program) (same_Some _ t
         (
           refl,
           scalar_integer _,
-          (refl, ((refl, a_region_type _ _ _ _, omega arith, λ low. refl), tt), tt, (tt, (tt, tt)), (tt, (tt, tt))),
+          (refl, ((refl, a_region_type _ _ _ _, omega arith, taken_may _ _ 0 mode.Read (omega arith) refl), tt), tt, (tt, (tt, tt)), (tt, (tt, tt))),
           (inr (inl (refl, refl, two_regions _ _ _ _ _ _ _)), (inr (inl (refl, refl, two_regions _ _ _ _ _ _ _)), tt)),
         ),
         (number_integer _, number_integer _, (refl, simple_integer _), tt),
@@ -50,7 +52,7 @@ tasks (suc zero) t e = subst (IsTypedBy true false hands_program) (same_Some _ t
       number_integer _,
       refl,
       record { named = refl; region = a_region_type _ _ _ _; field = omega arith; keeps = fits_64 },
-      λ low. refl,
+      taken_may _ _ 0 mode.Write (omega arith) refl,
     ),
     tt,
   );
@@ -59,9 +61,9 @@ tasks (suc zero) t e = subst (IsTypedBy true false hands_program) (same_Some _ t
 tasks (suc (suc zero)) t e = subst (IsTypedBy true false hands_program) (same_Some _ t e) (record {
   given = gives_nothing;
   typed = (
-    (refl, a_space_type _, (omega (arith, ints), an_integer _), record { there = omega arith; few = omega arith }, omega arith),
+    (refl, a_space_type _, (omega (arith, ints), an_integer _), record { there = omega arith; few = omega arith }, (omega arith, refl)),
     (
-      (refl, a_space_type _, (omega (arith, ints), an_integer _), record { there = omega arith; few = omega arith }, omega arith),
+      (refl, a_space_type _, (omega (arith, ints), an_integer _), record { there = omega arith; few = omega arith }, (omega arith, refl)),
       (
         -- the roots are handed over
         (
@@ -69,8 +71,8 @@ tasks (suc (suc zero)) t e = subst (IsTypedBy true false hands_program) (same_So
           (
             refl,
             (
-              (refl, a_region_type _ _ _ _, omega arith, λ low. absurd (omega (arith, low))),
-              ((refl, a_region_type _ _ _ _, omega arith, λ low. absurd (omega (arith, low))), tt),
+              (refl, a_region_type _ _ _ _, omega arith, made_may _ _ 0 mode.Read (omega arith) refl),
+              ((refl, a_region_type _ _ _ _, omega arith, made_may _ _ 0 mode.Read (omega arith) refl), tt),
             ),
             tt,
             (tt, (tt, (tt, tt))),

@@ -18,6 +18,7 @@ use Rattle.fit_rules.specs.Shapes.{Among, World}
 use Rattle.fit_rules.specs.Marks.{Fact, Holds, in_slot, lies, LiesAt, LiesIn, Mark, Suits}
 use Rattle.fit_laws.proofs.Lookup.{each_among}
 use Rattle.sound_code.proofs.Grounds.{IsTold, tells_within}
+use Rattle.sound_code.proofs.Parting.{below_part, IsOver, IsPartOf}
 
 abbrev pub number_of_name : Term → ℕ
 number_of_name (Name i) = i
@@ -87,34 +88,18 @@ module _ (n params : ℕ) (ks : List Fact) (m : Mark) where
     is_lower a b e = lower ((is_subregion-derivable known a b).0 e).below
 
     -- what is derived of a part: it is one of the same partition, or it is derived of the region of which that is
-    abbrev IsPartOf : ℕ → Term → Type 0
-    IsPartOf p (Name i) = ⊥
-    IsPartOf p (Child q c) = q ≡ p
-
     pub record OverPart (p : ℕ) (b : Term) : Type 0 where
       pub parent : ℕ
       pub flag : Bool
       pub of : Has known (PartOf p parent flag)
       pub over : Lower (Name parent) b
 
-    no_part_told : (a b : Term) → IsTold params ks (Within a b) → (p : ℕ) → IsPartOf p a → ⊥
-    no_part_told _ _ (tells_within i j li lj h) p e = e
-
-    lower_part : {a b : Term} → IsBelow known a b → (p : ℕ) → IsPartOf p a → IsPartOf p b ⊎ OverPart p b
-    lower_part same p e = inl e
-    lower_part (told_within {a} {b} h) p e = absurd (no_part_told a b (told (Within a b) (Has-from_Contains known (Within a b) h)) p e)
-    lower_part (through {a} {b} {c} h l) p e = ⊎_elim (λ q. lower_part l p q)
-        (λ o. inr (record { parent = o.parent; flag = o.flag; of = o.of; over = by_third (Name o.parent) b c o.over (lower l) })) (lower_part h p e)
-    lower_part (child {p = q} {r = r} {disjoint = d} h) p e = inr (record {
-      parent = r;
-      flag = d;
-      of = subst (λ n. Has known (PartOf n r d)) e (Has-from_Contains known _ h);
-      over = inl refl;
-    })
-    lower_part (variable h) p e = absurd e
+    pub lower_part : (p : ℕ) (c : Colour) (b : Term) → is_subregion known (Child p c) b ≡ true → IsPartOf p b ⊎ OverPart p b
+    lower_part p c b e = ⊎_elim inl (λ (o : IsOver known p b). inr (record { parent = o.parent; flag = o.flag; of = o.of; over = lower o.over }))
+        (below_part params ks known told ((is_subregion-derivable known (Child p c) b).0 e).below p refl)
 
     pub is_lower_part : (p : ℕ) (c : Colour) (j : ℕ) → is_subregion known (Child p c) (Name j) ≡ true → OverPart p (Name j)
-    is_lower_part p c j e = ⊎_elim (λ q. absurd q) (λ o. o) (lower_part ((is_subregion-derivable known (Child p c) (Name j)).0 e).below p refl)
+    is_lower_part p c j e = ⊎_elim (λ q. absurd q) (λ o. o) (lower_part p c (Name j) e)
 
   -- ---- so of arguments
 

@@ -14,7 +14,7 @@ use Rattle.regent_tree.specs.declared.typing.StaticType.TheVariants.{Region as r
 use Rattle.machine_terms.specs.declared.value.Value.{Value}
 use Rattle.check_laws.specs.SoundScopes.{Falls}
 use Rattle.code_laws.specs.Simple.{IsRegion, IsSimple, simple_index, simple_integer, simple_space, simple_truth}
-use Rattle.fit_rules.specs.Shapes.{Among, Each, Shape, anything, integer, truth, index, pointer, space, region, partition, awaited, Origin, unknown, argument, own_root, own_as, part, World, Is, is_number, is_region}
+use Rattle.fit_rules.specs.Shapes.{Among, Each, Shape, anything, integer, truth, index, pointer, space, region, partition, awaited, cut_from, Origin, unknown, argument, own_root, own_as, part, World, Is, is_number, is_region}
 use Rattle.fit_rules.specs.Sound.{IsElsewhere, IsOther}
 use Rattle.sound_code.specs.Named.{IsNumbered, IsOfNumber}
 use Rattle.sound_code.specs.Ways.{Way, all_made, by_rules, origin_in, shape_in}
@@ -42,6 +42,7 @@ numbered_more bs b (pointer n) h = tt
 numbered_more bs b space h = tt
 numbered_more bs b (region sp o) h = origin_more bs b o h
 numbered_more bs b (partition sp d) h = tt
+numbered_more bs b (cut_from sp d o) h = origin_more bs b o h
 numbered_more bs b (awaited s) h = tt
 
 pub each_numbered : (bs : List Bound) (b : Bound) (ss : List Shape) → Each (IsNumbered bs) ss → Each (IsNumbered (b ∷ bs)) ss
@@ -94,6 +95,7 @@ numbered_other bs i h (pointer k) n = tt
 numbered_other bs i h space n = tt
 numbered_other bs i h (region sp o) n = origin_other bs i h o n
 numbered_other bs i h (partition sp d) n = tt
+numbered_other bs i h (cut_from sp d o) n = origin_other bs i h o n
 numbered_other bs i h (awaited s) n = tt
 
 each_other : (bs : List Bound) (i : ℕ) → ((j : ℕ) → Among (numbers_of bs) j → i ≢ j) → (ss : List Shape) → Each (IsNumbered bs) ss → Each (IsOther i) ss

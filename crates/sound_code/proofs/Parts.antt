@@ -12,8 +12,9 @@ use Rattle.regent_tree.specs.declared.typing.Bound.{Bound}
 use Rattle.regent_tree.specs.declared.typing.StaticType.{StaticType}
 use Rattle.regent_tree.specs.declared.typing.StaticType.TheVariants.{Integer as integer_type, Truth as truth_type, Index as index_type, Pointer as pointer_type, Ispace as ispace_type, Region as region_type, Partition as partition_type, Nothing as no_type, Unknown as unknown_type}
 use Rattle.task_code.specs.declared.code.TaskCode.{TaskCode}
+use Rattle.task_code.specs.declared.instr.Instr.TheVariants as instr
 use Rattle.code_rules.specs.Expressions.{expr_code, steps_code}
-use Rattle.code_rules.specs.Instructions.{load_code}
+use Rattle.code_rules.specs.Instructions.{load_code, one}
 use Rattle.code_rules.specs.Pieces.{◌⨟◌, Piece}
 use Rattle.code_rules.specs.Slots.{bound, own_slot, slot_bound, slot_named, typed, Where}
 use Rattle.code_laws.specs.Arguments.{IsCutName, parent_bound}
@@ -21,7 +22,7 @@ use Rattle.code_laws.specs.Pointers.{IsCounting}
 use Rattle.code_laws.specs.Simple.{a_partition_type, a_region_type, AreRegions, IsPartition, IsRegion, term_in, two_regions}
 use Rattle.code_laws.specs.Standing.{Stands}
 use Rattle.code_laws.specs.Steps.{Forms}
-use Rattle.fit_rules.specs.Shapes.{Among, Origin, part, partition, region, Shape}
+use Rattle.fit_rules.specs.Shapes.{Among, cut_from, Origin, part, partition, region, Shape}
 use Rattle.fit_rules.specs.Marks.{Mark, parted, stacked}
 use Rattle.fit_rules.specs.Fits.{Program}
 use Rattle.sound_code.specs.Ways.{by_rules, origin_in, shape_in, shape_of, Way}
@@ -29,7 +30,7 @@ use Rattle.sound_code.proofs.Asked.{Asked, ruled}
 use Rattle.sound_code.proofs.Combining.{both, Marked, nothing_done}
 use Rattle.sound_code.proofs.Counting.{counted_numeric, standing_counted}
 use Rattle.sound_code.proofs.Cuts.{AreCut, cut_named, CutBy, IsCut}
-use Rattle.sound_code.proofs.Cutting.{cut_child}
+use Rattle.sound_code.proofs.Cutting.{cut_child, cut_loaded}
 use Rattle.sound_code.proofs.Placing.{named_at}
 use Rattle.sound_code.proofs.Scoped.{is_by_rules, IsByRules, IsScoped, own_shape, region_as, region_found, scoped_as}
 
@@ -112,6 +113,14 @@ module _ (g : Program) (t : TaskCode) (k slots : ℕ) (forms : Forms) (way : Way
         (region_as (by_rules r.task) w.params m.slots names (parent n) r.named of.region
         ∙ ap Some (own_shape r.task w.params names b.static_type b.number (parent n) (space_in b.static_type) of.region
         (scoped_as names names (parent n) r.scoped of.region) (region_found names (parent n) of.region).1 refl))
+
+    -- the code that loads the partition
+    pub cut_code : (d : ℕ) (us : List Shape) → Goes us (expr_code w d (access_expr n no_step))
+        (cut_from None (is_disjoint (bound w n).static_type) (origin_in way w.params (term.Name (parent n))) ∷ us)
+    cut_code d us =
+        let of = cut_of n keeps cut in
+        both g t k (subst (λ e. Goes us (one w (instr.Load (slot_named w n))) (cut_from None e (origin_in way w.params (term.Name (parent n))) ∷ us)) (sym of.is)
+        (cut_loaded g t k w.line m (slot_named w n) (slot_bound w (parent n)) _ of.disjoint _ us of.shape parent_there of.fact)) (nothing_done g t k _)
 
     -- the code that takes a part
     pub part_code : (d : ℕ) (us : List Shape) (u : StaticType) (e : Expression) → IsPartition u → IsCounting (typed w e) →

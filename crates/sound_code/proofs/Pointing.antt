@@ -6,7 +6,7 @@ use Rattle.std.proofs.lemmas.List.{length-map}
 use Rattle.regent_tree.specs.Accesses.{space_in}
 use Rattle.regent_tree.specs.Scopes.{bound_as}
 use Rattle.regent_tree.specs.StaticTypes.{field_place, Reach}
-use Rattle.regent_tree.specs.Syntax.{access_expr, assign_form, at_step, Expression, field_step, Name, no_step}
+use Rattle.regent_tree.specs.Syntax.{access_expr, assign_form, at_step, Expression, field_step, Name, no_step, Steps}
 use Rattle.regent_tree.specs.Typing.{counting_as, has_wild, reaches_of, type_of_element}
 use Rattle.regent_tree.specs.declared.facts.Term.TheVariants as term
 use Rattle.regent_tree.specs.declared.rights.Access.TheVariants.{Read, Reduce, Write}
@@ -111,19 +111,21 @@ module _ (g : Program) (t : TaskCode) (k slots : ℕ) (forms : Forms) (way : Way
   pointer_loaded _ place us (a_pointer_type c sp args rs names) there =
       does g t k (stacked m us) (instr.Load (slot w place)) w.line _ (does_load (slot w place) _ us there (settled_number _ (numeric_pointer (length rs))))
 
-  -- what a name's pointer goes to
-  pub behind_marked : (d : ℕ) (x f : Name) (us : List Shape) → forms.keeps ≡ true → IsBehind w x f (field_behind w x f) →
-      Told way w.tree w.scope (access_expr x (field_step f no_step)) → Goes us (expr_code w d (access_expr x (field_step f no_step))) (shape_of (field_behind w x f) ∷ us)
-  behind_marked d x f us q h told =
+  -- what a name's pointer goes to, and what stands behind that
+  pub behind_marked : (d : ℕ) (x f : Name) (rest : Steps) (us vs : List Shape) → forms.keeps ≡ true → IsBehind w x f (field_behind w x f) →
+      Told way w.tree w.scope (access_expr x (field_step f no_step)) → Goes (shape_of (field_behind w x f) ∷ us) (steps_code w d (field_behind w x f) 0 rest) vs →
+      Goes us (expr_code w d (access_expr x (field_step f rest))) vs
+  behind_marked d x f rest us vs q h told more =
       let r = ruled g t k slots forms way w m asked q in
       let u = (bound w x).static_type in
       let there = pointer_aims w.scope.names (bound w x).number u h.pointer (scoped_named w.scope.names w.scope.names x r.scoped h.named) in
       let part = part_named (by_rules r.task) w.params m.slots w.scope.next w.scope.names x h.numbers r.beside h.named in
       let may = may_read_through w r.task x f h.pointer h.certain h.field (subst (λ v. Told v w.tree w.scope (access_expr x (field_step f no_step))) r.by told).1 in
-      reads_through g t k r.task w m r.known f (field_behind w x f) u (bound w x).place (own_slot w u (bound w x).place) us h.pointer
+      reads_through g t k r.task w m r.known f (field_behind w x f) u (bound w x).place (own_slot w u (bound w x).place) rest
+      (steps_code w d (field_behind w x f) 0 rest) us vs h.pointer
       (named_at (by_rules r.task) w.params m.slots w.scope.names x r.named h.named ∙ ap Some (pointer_named (by_rules r.task) w.params u h.pointer)) h.keeps
       (λ vs. allowed_through w r.task g t m asked.params r.known r.kept r.facts r.named r.scoped u
-      (field_place w.tree (space_in u) f) (bound w x).place Read vs h.pointer there part h.certain may h.field)
+      (field_place w.tree (space_in u) f) (bound w x).place Read vs h.pointer there part h.certain may h.field) more
 
   -- a field that it goes to is assigned, and reduced
   pub set_behind_marked : (x f : Name) (y : Expression) → forms.keeps ≡ true → IsBehind w x f (field_behind w x f) →

@@ -20,7 +20,7 @@ use Rattle.fit_rules.specs.Marks.{Mark, stacked}
 use Rattle.fit_rules.specs.Fits.{Program}
 use Rattle.fit_rules.specs.Sound.{Takes, does_print}
 use Rattle.sound_code.specs.Named.{HasSlots}
-use Rattle.sound_code.specs.WholeTasks.{are_whole_expressions}
+use Rattle.sound_code.proofs.WholeTasks.{are_whole_expressions}
 use Rattle.sound_code.specs.Ways.{Way, shape_of}
 use Rattle.sound_code.proofs.Wholes.{Asks, asks_first, asks_second}
 use Rattle.sound_code.proofs.Told.{ToldArgs, told_arg}

@@ -1,9 +1,11 @@
 -- The code of tasks of an accepted program is sound by the rules.
-use Rattle.std.proofs.Common.{◌≡◌, ℕ, zero, suc, ◌≤◌, ◌^◌, ℤ, List, [], ◌∷◌, ◌++◌, Bool, Some, false, true, inr, refl, subst}
+use Rattle.std.proofs.Common.{◌≡◌, ℕ, zero, suc, ◌≤◌, ◌^◌, ℤ, List, [], ◌∷◌, ◌++◌, ◌∙◌, ap, Bool, None, Some, false, true, inl, inr, refl, subst}
 use Rattle.std.specs.List.{list_all}
 use Rattle.std.proofs.lemmas.Bool.{and_parts, false≢true}
 use Rattle.std.proofs.lemmas.Option.{none-some, same_Some}
 use Rattle.std.specs.Prelude.{length, slice_get}
+use Rattle.regent_tree.proofs.Members.{Has}
+use Rattle.regent_tree.specs.declared.facts.Known.{Known}
 use Rattle.regent_tree.specs.StaticTypes.{entry_name, no_task, task_named}
 use Rattle.regent_tree.specs.Syntax.{task_item, TaskTree, Tree}
 use Rattle.check_rules.specs.Breaches.{breaches}
@@ -11,27 +13,28 @@ use Rattle.check_laws.proofs.Bodies.{body_told}
 use Rattle.code_rules.specs.Instructions.{tasks_of}
 use Rattle.code_laws.specs.Handing.{AreTypedBy}
 use Rattle.code_laws.specs.Programs.{call_forms, IsTypedRun}
-use Rattle.fit_rules.specs.Marks.{Mark}
+use Rattle.fit_rules.specs.Marks.{Fact, Mark}
 use Rattle.marked_code.proofs.Remarked.{remarked}
 use Rattle.code_laws.proofs.Entries.{kept_all, kept_item}
 use Rattle.code_laws.proofs.Typing.{AreKept, kept_behind, kept_left, kept_right}
 use Rattle.regent_tree.specs.Limits.{parts_of_block, parts_of_item, parts_of_items, parts_of_params, parts_of_program, parts_of_type}
 use Rattle.sound_code.proofs.Few.{program_few, task_few}
+use Rattle.sound_code.proofs.Frees.{program_whole}
 use Rattle.code_laws.proofs.LocalRuns.{local_run, local_tasks, plain_run, plain_tasks}
 use Rattle.regent_tree.specs.Scopes.{scope_of}
 use Rattle.code_rules.specs.Pieces.{lines}
 use Rattle.code_rules.specs.Programs.{body_piece, place_of, task_code}
-use Rattle.code_laws.specs.Handing.{forms_by}
+use Rattle.code_laws.specs.Above.{cut_told, first_told, or_other, whole_of}
+use Rattle.code_laws.specs.Handing.{forms_by, taking_of, told_in}
 use Rattle.code_laws.specs.Steps.{Forms}
-use Rattle.code_laws.specs.Taking.{pairs_in}
 use Rattle.code_laws.specs.Typed.{IsTypedBlock}
 use Rattle.sound_code.specs.Programs.{AcceptedTasksAreSound, HandingTasksAreSound, LocalProgramsAreSound, LocalRunsSoundly, WholeProgramsAreSound, TasksKeepRules, BeginsWell}
-use Rattle.sound_code.specs.WholeTasks.{is_whole_program, is_whole_task}
-use Rattle.code_laws.proofs.LocalParams.{all_back, behind_all}
-use Rattle.code_laws.proofs.LocalTrees.{item_of_form, item_stands, task_stands}
+use Rattle.sound_code.proofs.WholeTasks.{is_whole_program, is_whole_task}
+use Rattle.code_laws.proofs.LocalParams.{pointers_among}
+use Rattle.code_laws.proofs.LocalTrees.{item_stands, task_stands}
 use Rattle.code_laws.specs.LocalPrograms.{IsLocalProgramRun}
 use Rattle.sound_code.proofs.Scoped.{is_by_rules, Scoped}
-use Rattle.code_laws.specs.Pointers.{AllGoBack}
+use Rattle.code_laws.specs.Pointers.{AllGoToParams}
 use Rattle.sound_code.proofs.ScopedNames.{opening_scoped}
 use Rattle.sound_code.proofs.Cuts.{Cut}
 use Rattle.sound_code.proofs.CutParams.{opening_cut}
@@ -39,6 +42,8 @@ use Rattle.sound_code.proofs.Wholes.{Asks, not_kept}
 use Rattle.sound_code.proofs.Asked.{Hands, hands_none, hands_taken}
 use Rattle.sound_code.specs.Ways.{Way, by_rules, opening_facts}
 use Rattle.sound_code.proofs.Accepted.{begins_kept, body_without_breach, stands_in}
+use Rattle.sound_code.proofs.Behind.{after_block_ground}
+use Rattle.sound_code.proofs.Grounds.{IsTold, tells_apart, tells_made, tells_part, tells_within}
 use Rattle.sound_code.proofs.Entries.{named_there}
 use Rattle.sound_code.proofs.Openings.{all, all_marked, all_sound, begins_well, opened}
 use Rattle.sound_code.proofs.InOrder.{never_breaks, run_keeps_all, sound_code}
@@ -74,6 +79,18 @@ module _ (tree : Tree) (given : (k : ℕ) (t : TaskTree) → slice_get (tasks_of
     runs = λ forms. run_keeps_all tree g refl given (λ k. refl) (all_sound tree way marks_at) forms (well forms);
   }
 
+-- what is told by such facts tells of no region that it began as a part
+tells_no_cut : (params : ℕ) (ks : List Fact) (i : ℕ) (k : Known) → IsTold params ks k → cut_told i k ≡ None
+tells_no_cut params ks i _ (tells_within a b la lb h) = refl
+tells_no_cut params ks i _ (tells_apart a b la lb h) = refl
+tells_no_cut params ks i _ (tells_part p r d) = refl
+tells_no_cut params ks i _ (tells_made s l) = refl
+
+no_cut_told : (params : ℕ) (ks : List Fact) (i : ℕ) (known : List Known) → ((k : Known) → Has known k → IsTold params ks k) → first_told (cut_told i) known ≡ None
+no_cut_told params ks i [] h = refl
+no_cut_told params ks i (k ∷ known) h =
+    ap (λ o. or_other o (first_told (cut_told i) known)) (tells_no_cut params ks i k (h k (inl refl))) ∙ no_cut_told params ks i known (λ j x. h j (inr x))
+
 module _ (tree : Tree) (none : breaches tree ≡ []) where
   -- a task of which nothing is told, in these forms
   told_marks : (forms : Forms) (k : ℕ) (t : TaskTree) → slice_get (tasks_of tree) k ≡ Some t → Hands forms (task_code tree t) (by_rules t) tree →
@@ -84,14 +101,22 @@ module _ (tree : Tree) (none : breaches tree ≡ []) where
       treat tree way forms k t there hands (begins_kept tree t (body_told tree t none (stands_in tree k t there)))
       (body_without_breach tree none k t there) typed (λ q. is_by_rules t) scoped cut whole small
 
+  -- none of the regions of such a task began as a part
+  none_above : (forms : Forms) (k : ℕ) (t : TaskTree) → slice_get (tasks_of tree) k ≡ Some t → IsTypedBlock forms (place_of tree t) t.body →
+      Asks forms.keeps (is_whole_task true tree t) → (i : ℕ) → (taking_of tree t).above i ≡ None
+  none_above forms k t there typed whole i =
+      let h = after_block_ground forms (task_code tree t) (by_rules t) (place_of tree t) t.body typed whole
+      (begins_kept tree t (body_told tree t none (stands_in tree k t there))) in
+      ap (whole_of (told_in tree t)) (no_cut_told (length t.params) (opening_facts (by_rules t) tree t) i (told_in tree t) h.known)
+
   -- where tasks hand regions over, and keep pointers or not
   handing : (keeping : Bool) → AreTypedBy true keeping tree → (keeping ≡ true → is_whole_program true tree ≡ true) →
-      (keeping ≡ true → (k : ℕ) (t : TaskTree) → slice_get (tasks_of tree) k ≡ Some t → AllGoBack (scope_of tree t).names) → TasksKeepRules tree
-  handing keeping typed whole back = tasks_keep_rules tree (λ k t there. (typed k t there).given) (λ k t there.
+      (keeping ≡ true → (k : ℕ) (t : TaskTree) → slice_get (tasks_of tree) k ≡ Some t → AllGoToParams (scope_of tree t).names) → TasksKeepRules tree
+  handing keeping typed whole goals = tasks_keep_rules tree (λ k t there. (typed k t there).given) (λ k t there.
       let h = typed k t there in
       told_marks (forms_by true keeping tree t) k t there
-      (hands_taken t (record { params = length t.params; needs = (task_code tree t).needs; within = pairs_in (scope_of tree t).known }) refl refl refl refl refl)
-      h.typed (λ q. opening_scoped tree t (back q k t there)) (λ q. opening_cut tree t (back q k t there)) (λ q. each_task (tasks_of tree) k (whole q) there) h.small)
+      (hands_taken t (taking_of tree t) refl refl refl refl refl (none_above (forms_by true keeping tree t) k t there h.typed (λ q. each_task (tasks_of tree) k (whole q) there)))
+      h.typed (λ q. opening_scoped tree t (goals q k t there)) (λ q. opening_cut tree t (goals q k t there)) (λ q. each_task (tasks_of tree) k (whole q) there) h.small)
     where
       each_task : {t : TaskTree} (ts : List TaskTree) (k : ℕ) → list_all (is_whole_task true tree) ts ≡ true → slice_get ts k ≡ Some t → is_whole_task true tree t ≡ true
       each_task [] k h e = absurd (none-some _ e)
@@ -117,12 +142,11 @@ pub local_programs_are_sound : LocalProgramsAreSound
 local_programs_are_sound tree inputs p = begun_soundly (forms_by true false tree (task_named tree (entry_name tree))) tree inputs
     (handing_tasks_are_sound tree p.run.accepted (plain_tasks tree inputs p)) (plain_run tree inputs p)
 
--- where a program is of the form, the pointers of parameters go to parameters before them, and partitions are of such
-local_back : (tree : Tree) (inputs : List ℤ) → IsLocalProgramRun tree inputs → (k : ℕ) (t : TaskTree) → slice_get (tasks_of tree) k ≡ Some t →
-    AllGoBack (scope_of tree t).names
-local_back tree inputs p k t at =
-    let s = task_stands tree k t at in
-    all_back tree t.params (behind_all tree t p.accepted p.within (item_stands tree s.0 s.1 t s.2) (item_of_form tree p.local s.0 s.1 t s.2).back)
+-- in an accepted program the pointers of parameters go to parameters, and partitions are of such
+local_goals : (tree : Tree) (inputs : List ℤ) → IsLocalProgramRun tree inputs → (k : ℕ) (t : TaskTree) → slice_get (tasks_of tree) k ≡ Some t →
+    AllGoToParams (scope_of tree t).names
+local_goals tree inputs p k t at =
+    let s = task_stands tree k t at in pointers_among tree t p.accepted p.within (item_stands tree s.0 s.1 t s.2)
 
 -- within the limits of a text its pointers' types name few regions
 module _ (tree : Tree) (inputs : List ℤ) (p : IsLocalProgramRun tree inputs) where
@@ -140,4 +164,7 @@ module _ (tree : Tree) (inputs : List ℤ) (p : IsLocalProgramRun tree inputs) w
 
 pub whole_programs_are_sound : WholeProgramsAreSound
 whole_programs_are_sound tree inputs p = begun_soundly (forms_by true true tree (task_named tree (entry_name tree))) tree inputs
-    (handing tree p.run.accepted true (local_tasks tree inputs p.run) (λ q. program_few tree (items_kept tree inputs p.run) (local_few tree inputs p.run) p.whole) (λ q. local_back tree inputs p.run)) (local_run tree inputs p.run)
+    (handing tree p.run.accepted true (local_tasks tree inputs p.run)
+    (λ q. program_few tree (items_kept tree inputs p.run) (local_few tree inputs p.run)
+    (program_whole tree (λ t. forms_by true true tree t) (λ t. refl) (λ t. refl) (λ k t at. (local_tasks tree inputs p.run k t at).typed) p.free))
+    (λ q. local_goals tree inputs p.run)) (local_run tree inputs p.run)

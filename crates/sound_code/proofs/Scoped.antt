@@ -1,5 +1,5 @@
--- What the types of names in scope name is in scope: a region's type names the region itself, and a pointer's type regions
--- that have names. So the regions of a pointer stand in their slots.
+-- What the types of names in scope name is in scope: a region's type names the region itself, a partition's type the partition, and a
+-- pointer's type regions that have names. So the regions of a pointer stand in their slots.
 use Rattle.std.proofs.Common.{◌≡◌, inl, inr, ℕ, ◌<◌, ◌≤◌, List, [], ◌∷◌, Bool, true, false, cond, None, Some, refl, ap, ◌∙◌, subst, arith}
 use Rattle.std.specs.Prelude.{bytes_eq, slice_get, ◌==◌, ◌||◌}
 use Rattle.std.proofs.lemmas.Bool.{eqb-true, false≢true}
@@ -13,7 +13,7 @@ use Rattle.regent_tree.specs.Typing.{reaches_of}
 use Rattle.regent_tree.specs.declared.facts.Term.TheVariants as term
 use Rattle.regent_tree.specs.declared.typing.Bound.{Bound}
 use Rattle.regent_tree.specs.declared.typing.StaticType.{StaticType}
-use Rattle.regent_tree.specs.declared.typing.StaticType.TheVariants.{Pointer as pointer_type, Region as region_type, Unknown as unknown_type}
+use Rattle.regent_tree.specs.declared.typing.StaticType.TheVariants.{Partition as partition_type, Pointer as pointer_type, Region as region_type, Unknown as unknown_type}
 use Rattle.check_laws.specs.SoundScopes.{Falls}
 use Rattle.code_laws.specs.Pointers.{a_pointer_type, AreThere, IsPointer}
 use Rattle.code_laws.specs.Simple.{a_region_type, IsPartition, IsRegion}
@@ -30,6 +30,7 @@ Aims all sp rs = AreThere all sp rs
 abbrev pub IsScoped : List Bound → ℕ → StaticType → Type 0
 IsScoped all number (region_type k sp args r) = r ≡ term.Name number
 IsScoped all number (pointer_type k sp args rs) = Aims all sp rs
+IsScoped all number (partition_type d r p) = p ≡ number
 IsScoped all number t = Unit {0}
 
 abbrev pub AreScoped : List Bound → List Bound → Type 0
@@ -164,6 +165,7 @@ module _ (next : ℕ) (bs : List Bound) (b : Bound) (falls : Falls next bs) (new
   pub scoped_more : (number : ℕ) (t : StaticType) → IsScoped bs number t → IsScoped (b ∷ bs) number t
   scoped_more number (pointer_type k sp args rs) h = aims_more sp rs h
   scoped_more number (region_type k sp args r) h = h
+  scoped_more number (partition_type d r p) h = h
   scoped_more number _ h = tt
 
   pub all_more : (cs : List Bound) → AreScoped bs cs → AreScoped (b ∷ bs) cs

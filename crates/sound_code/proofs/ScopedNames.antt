@@ -12,7 +12,7 @@ use Rattle.regent_tree.specs.declared.types.TypeTerm.TheVariants as typing
 use Rattle.regent_tree.specs.declared.typing.Bound.{Bound}
 use Rattle.regent_tree.specs.declared.typing.StaticType.{StaticType}
 use Rattle.code_rules.specs.Slots.{bound, typed, Where}
-use Rattle.code_laws.specs.Pointers.{a_pointer_type, AllGoBack, AreThere, GoBack, GoesBack, Begins, begins_plain, begins_pointer, BeginsItself, IsPointer, itself_null, itself_plain}
+use Rattle.code_laws.specs.Pointers.{a_pointer_type, AllGoToParams, AreThere, GoToParams, GoesToParams, Begins, begins_plain, begins_pointer, BeginsItself, IsPointer, itself_null, itself_plain}
 use Rattle.code_laws.specs.Simple.{a_region_type, IsRegion, IsSimple, simple_index, simple_integer, simple_space, simple_truth}
 use Rattle.code_laws.specs.Steps.{Forms}
 use Rattle.code_laws.specs.Typed.{element_field, field_behind, IsKeepable, IsOwnRegion, IsPointing, IsTyped}
@@ -82,7 +82,7 @@ zero_scoped bs n u (itself_null _ q) = pointer_scoped bs n u q.0 q.1
 
 -- ---- where a body begins
 
-pub go_both : (all bs : List Bound) (b : Bound) → GoBack all (bs ++ b ∷ []) → GoBack all bs × GoesBack all b.number b.static_type
+pub go_both : (all bs : List Bound) (b : Bound) → GoToParams all (bs ++ b ∷ []) → GoToParams all bs × GoesToParams all b.static_type
 go_both all [] b h = (tt, h.0)
 go_both all (c ∷ bs) b h = let more = go_both all bs b h.1 in ((h.0, more.0), more.1)
 
@@ -90,22 +90,22 @@ scoped_behind : (all bs : List Bound) (b : Bound) → AreScoped all bs → IsSco
 scoped_behind all [] b a h = (h, tt)
 scoped_behind all (c ∷ bs) b a h = (a.0, scoped_behind all bs b a.1 h)
 
-type_scoped : (tree : Tree) (look : Looking) (all : List Bound) (i : ℕ) (t : TypeTerm) → GoesBack all i (type_said tree look i t) → IsScoped all i (type_said tree look i t)
+type_scoped : (tree : Tree) (look : Looking) (all : List Bound) (i : ℕ) (t : TypeTerm) → GoesToParams all (type_said tree look i t) → IsScoped all i (type_said tree look i t)
 type_scoped tree look all i (typing.Number number.Int32) h = tt
 type_scoped tree look all i (typing.Number number.Int64) h = tt
 type_scoped tree look all i (typing.Number (number.Index k)) h = tt
 type_scoped tree look all i typing.Truth h = tt
-type_scoped tree look all i (typing.Pointer p) h = aims_there all (place_of_space tree p.space.name) (map (looked_up look) p.regions) h.0
+type_scoped tree look all i (typing.Pointer p) h = aims_there all (place_of_space tree p.space.name) (map (looked_up look) p.regions) h
 type_scoped tree look all i (typing.Ispace k) h = tt
 type_scoped tree look all i (typing.Region k u) h = refl
-type_scoped tree look all i (typing.Partition d r c) h = tt
+type_scoped tree look all i (typing.Partition d r c) h = refl
 
-params_scoped : (tree : Tree) (all : List Bound) (ps : List Param) (i : ℕ) (qs : List Param) → GoBack all (bound_params tree ps i qs) → AreScoped all (bound_params tree ps i qs)
+params_scoped : (tree : Tree) (all : List Bound) (ps : List Param) (i : ℕ) (qs : List Param) → GoToParams all (bound_params tree ps i qs) → AreScoped all (bound_params tree ps i qs)
 params_scoped tree all ps i [] h = tt
 params_scoped tree all ps i (q ∷ qs) h =
     let both = go_both all (bound_params tree ps (suc i) qs) _ h in
     scoped_behind all (bound_params tree ps (suc i) qs) _ (params_scoped tree all ps (suc i) qs both.0) (type_scoped tree (among_params ps) all i q.term both.1)
 
--- the parameters of a task, whose pointers go to parameters before them
-pub opening_scoped : (tree : Tree) (t : TaskTree) → AllGoBack (scope_of tree t).names → AreScoped (scope_of tree t).names (scope_of tree t).names
+-- the parameters of a task, whose pointers go to parameters
+pub opening_scoped : (tree : Tree) (t : TaskTree) → AllGoToParams (scope_of tree t).names → AreScoped (scope_of tree t).names (scope_of tree t).names
 opening_scoped tree t h = params_scoped tree (scope_of tree t).names t.params 0 t.params h

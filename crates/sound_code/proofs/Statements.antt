@@ -38,7 +38,8 @@ use Rattle.marked_code.specs.Marked.{leads_back, leads_making, typed_op, typed_b
 use Rattle.fit_laws.proofs.Keeping.{get_other, get_set, set_mark}
 use Rattle.sound_code.proofs.Counting.{null_fits}
 use Rattle.sound_code.specs.Named.{slot_at, HasSlots, IsNumbered, Ready, Narrower}
-use Rattle.sound_code.specs.WholeTasks.{are_whole_arguments, is_whole_expression, are_free}
+use Rattle.sound_code.specs.FreeCalls.{are_free}
+use Rattle.sound_code.proofs.WholeTasks.{are_whole_arguments, is_whole_expression}
 use Rattle.sound_code.specs.Ways.{Way, shape_in, shape_of}
 use Rattle.sound_code.proofs.Wholes.{alike_becomes, alike_simple, Asks, Becomes, IsKept, IsWorth, kept_pointer, kept_simple, simple_few, worth_few, worth_named, worth_pointer, worth_simple, asks_first, asks_second}
 use Rattle.sound_code.proofs.Steady.{steady_below}

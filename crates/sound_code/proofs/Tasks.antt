@@ -27,7 +27,7 @@ use Rattle.fit_rules.specs.Sound.{IsSound}
 use Rattle.marked_code.specs.Marked.{Typed}
 use Rattle.sound_code.specs.Named.{slot_at, AreNamed, HasSlots, Ready}
 use Rattle.sound_code.specs.Ways.{Way, all_made, by_rules, opening_facts, shape_in, shape_of}
-use Rattle.sound_code.specs.WholeTasks.{is_whole_task}
+use Rattle.sound_code.proofs.WholeTasks.{is_whole_task}
 use Rattle.sound_code.proofs.Besides.{params_beside}
 use Rattle.sound_code.proofs.Cuts.{Cut}
 use Rattle.sound_code.proofs.Scoped.{IsByRules, Scoped}

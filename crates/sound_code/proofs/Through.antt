@@ -14,7 +14,7 @@ use Rattle.lane_kernels.specs.Numbers.{width_of}
 use Rattle.regent_tree.specs.Accesses.{space_in}
 use Rattle.regent_tree.specs.Lookup.{has_field, is_bound}
 use Rattle.regent_tree.specs.StaticTypes.{field_place, field_term, Reach, space_at}
-use Rattle.regent_tree.specs.Syntax.{access_expr, assign_form, Expression, field_step, Name, no_step, TaskTree}
+use Rattle.regent_tree.specs.Syntax.{access_expr, assign_form, Expression, field_step, Name, no_step, Steps, TaskTree}
 use Rattle.regent_tree.specs.Typing.{has_wild, parent_of, reaches_of}
 use Rattle.regent_tree.specs.declared.facts.Colour.{Colour}
 use Rattle.regent_tree.specs.declared.facts.Term.TheVariants as term
@@ -37,7 +37,7 @@ use Rattle.check_rules.specs.declared.rule.Rule.TheVariants as rule
 use Rattle.check_rules.proofs.Untold.{rule_none}
 use Rattle.code_rules.specs.Assignments.{put_code}
 use Rattle.code_rules.specs.Instructions.{field_code, load_code, one}
-use Rattle.code_rules.specs.Pieces.{◌⨟◌, empty}
+use Rattle.code_rules.specs.Pieces.{◌⨟◌, Piece}
 use Rattle.code_rules.specs.Slots.{beside, bound, own_slot, slot, slot_of_reach, slots_of, Where}
 use Rattle.code_laws.specs.Pointers.{a_pointer_type, AreAims, AreThere, FieldKeeps, IsPointer}
 use Rattle.code_laws.specs.Simple.{an_integer, IsInteger, IsRegion, a_region_type}
@@ -49,7 +49,7 @@ use Rattle.fit_rules.specs.Sound.{Allowed, does_load, does_read, does_reduce, do
 use Rattle.sound_code.specs.Named.{AreNamed, HasPartBeside, IsPartBeside, parent_as}
 use Rattle.sound_code.specs.Ways.{by_rules, origin_in, shape_of}
 use Rattle.sound_code.proofs.Asked.{Known}
-use Rattle.sound_code.proofs.Combining.{both, does, Marked, nothing_done}
+use Rattle.sound_code.proofs.Combining.{both, does, Marked}
 use Rattle.sound_code.proofs.Elements.{field_shape, kind_same}
 use Rattle.sound_code.proofs.Granting.{allowed, allowed_over, allowed_within, named_one, term_in}
 use Rattle.sound_code.proofs.Grounds.{HasFacts, Kept}
@@ -76,7 +76,7 @@ module _ (w : Where) (task : TaskTree) where
   has_it sp f l = below_any (λ (p : Param). bytes_eq p.name f) (space_at w.tree sp).fields l
 
   -- a pointer's field of which nothing is lacking
-  may_each : (u : StaticType) (f : Name) (a : Access) → IsPointer u → has_wild (reaches_of u) ≡ false →
+  pub may_each : (u : StaticType) (f : Name) (a : Access) → IsPointer u → has_wild (reaches_of u) ≡ false →
       field_place w.tree (space_in u) f < length (space_at w.tree (space_in u)).fields →
       lacks w.tree task w.scope (wanted_of_step w.tree a (field_of u f)) ≡ false → MayEach (reaches_of u) (field_place w.tree (space_in u) f) a
   may_each _ f a (a_pointer_type k sp args rs names) certain l none =
@@ -131,6 +131,12 @@ module _ (w : Where) (task : TaskTree) where
     allowed_each sp f own a us (Some (term.Child p c) ∷ rs) there certain may l = absurd there
     allowed_each sp f own a us (None ∷ rs) there certain may l = absurd (false≢true (sym certain))
 
+    -- through a pointer that no name has, whose regions are in scope
+    pub allowed_reached : (u : StaticType) (f own : ℕ) (a : Access) (us : List Shape) → IsPointer u → AreThere w.scope.names (space_in u) (reaches_of u) →
+        has_wild (reaches_of u) ≡ false → MayEach (reaches_of u) f a → f < length (space_at w.tree (space_in u)).fields →
+        Each (Allowed g t (stacked m us) (space_in u) f (mode_of a)) (slots_of w own u)
+    allowed_reached _ f own a us (a_pointer_type k sp args rs aims) there certain may l = allowed_each sp f own a us rs there certain may l
+
     -- through the region of a part, which stands beside the pointer
     allowed_part : (sp f place : ℕ) (a : Access) (us : List Shape) (p : ℕ) (c : Colour) →
         IsPartBeside (by_rules task) w.params m.slots place sp (bound_as w.scope.names p) (parent_as w.scope.names p) →
@@ -172,20 +178,28 @@ module _ (g : Program) (t : TaskCode) (k : ℕ) (task : TaskTree) (w : Where) (m
   abbrev pub Allows : StaticType → ℕ → Mode → Type 0
   Allows u own a = (us : List Shape) → Each (Allowed g t (stacked m us) (space_in u) (place_of u) a) (slots_of w own u)
 
-  pub reads_through : (u : StaticType) (place own : ℕ) (us : List Shape) → IsPointer u → slice_get m.slots (slot w place) ≡ Some (shape_of u) →
-      FieldKeeps (field_term w.tree (space_in u) (place_of u)) out → Allows u own mode.Read →
-      Marked g t k (stacked m us) (load_code w u (slot w place) (field_step f no_step) ⨟ (field_code w u own f ⨟ empty)) (stacked m (shape_of out ∷ us))
-  reads_through _ place own us (a_pointer_type c sp args rs names) there keeps may =
+  -- the field is read that a pointer on the stack goes to
+  pub field_read : (u : StaticType) (own : ℕ) (us : List Shape) → IsPointer u → FieldKeeps (field_term w.tree (space_in u) (place_of u)) out → Allows u own mode.Read →
+      Marked g t k (stacked m (shape_of u ∷ us)) (field_code w u own f) (stacked m (shape_of out ∷ us))
+  field_read _ own us (a_pointer_type c sp args rs names) keeps may =
       let n = length rs in
       let fp = field_place w.tree sp f in
       let us1 : List Shape = pointer n ∷ us in
       let long = length-map rs (slot_of_reach w own) in
-      both g t k (does g t k (stacked m us) (instr.Load (slot w place)) w.line us1 (does_load (slot w place) (pointer n) us there (settled_number _ (numeric_pointer n))))
-      (both g t k (subst (λ y. Marked g t k (stacked m us1) (one w (instr.Read (map (slot_of_reach w own) rs) fp)) (stacked m (y ∷ us)))
+      subst (λ y. Marked g t k (stacked m us1) (one w (instr.Read (map (slot_of_reach w own) rs) fp)) (stacked m (y ∷ us)))
       (field_shape g w.tree (by_rules task) known sp fp out keeps)
       (does g t k (stacked m us1) (instr.Read (map (slot_of_reach w own) rs) fp) w.line _
-      (does_read (map (slot_of_reach w own) rs) fp sp n us (omega (arith, long), may us1))))
-      (nothing_done g t k _))
+      (does_read (map (slot_of_reach w own) rs) fp sp n us (omega (arith, long), may us1)))
+
+  -- a name's pointer is loaded, its field is read, and what stands behind goes on with that
+  pub reads_through : (u : StaticType) (place own : ℕ) (rest : Steps) (p : Piece) (us vs : List Shape) → IsPointer u →
+      slice_get m.slots (slot w place) ≡ Some (shape_of u) → FieldKeeps (field_term w.tree (space_in u) (place_of u)) out → Allows u own mode.Read →
+      Marked g t k (stacked m (shape_of out ∷ us)) p (stacked m vs) →
+      Marked g t k (stacked m us) (load_code w u (slot w place) (field_step f rest) ⨟ (field_code w u own f ⨟ p)) (stacked m vs)
+  reads_through _ place own rest p us vs (a_pointer_type c sp args rs names) there keeps may more =
+      let n = length rs in
+      both g t k (does g t k (stacked m us) (instr.Load (slot w place)) w.line (pointer n ∷ us) (does_load (slot w place) (pointer n) us there (settled_number _ (numeric_pointer n))))
+      (both g t k (field_read (pointer_type c sp args rs) own us (a_pointer_type c sp args rs names) keeps may) more)
 
   pub writes_through : (u : StaticType) (own : ℕ) (us : List Shape) → IsPointer u → FieldKeeps (field_term w.tree (space_in u) (place_of u)) out → Allows u own mode.Write →
       Marked g t k (stacked m (shape_of u ∷ shape_of out ∷ us)) (put_code w u own f how.Set) (stacked m us)

@@ -39,7 +39,7 @@ use Rattle.check_rules.specs.types.Sorts.{is_partition, may_be}
 use Rattle.check_rules.specs.Breaches.{has_no_type}
 use Rattle.check_rules.specs.scopes.Visits.{declared_at}
 use Rattle.check_rules.specs.declared.rule.Rule.TheVariants as rule
-use Rattle.sound_code.specs.WholeTasks.{is_whole_expression}
+use Rattle.sound_code.proofs.WholeTasks.{is_whole_expression}
 use Rattle.sound_code.specs.Ways.{Way, all_made, by_rules}
 use Rattle.sound_code.proofs.Wholes.{Asks, IsWorth, read_worth, worth_pointer, worth_simple}
 

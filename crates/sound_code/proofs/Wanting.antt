@@ -1,5 +1,5 @@
 -- Accesses to fields at points of regions that have names, of which no breach is told, are granted.
-use Rattle.std.proofs.Common.{◌≡◌, inl, inr, ℕ, ◌<◌, List, [], ◌∷◌, Bool, true, false, ◌&&◌, ◌||◌, not, None, Some, refl, sym, ap, ◌∙◌, subst, cond, arith}
+use Rattle.std.proofs.Common.{◌≡◌, inl, inr, ℕ, ◌<◌, List, [], ◌∷◌, Bool, true, false, ◌&&◌, ◌||◌, not, None, Some, refl, sym, ap, ◌∙◌, subst, cond, arith, Option}
 use Rattle.std.specs.Prelude.{bytes_eq, flat_map, length, ◌+◌, suc}
 use Rattle.std.specs.List.{position_or_len}
 use Rattle.std.specs.List.{list_all, list_any}
@@ -13,6 +13,7 @@ use Rattle.regent_tree.specs.Syntax.{Expression, Form, Name, TaskTree, Tree, acc
 use Rattle.regent_tree.specs.Typing.{type_of_element}
 use Rattle.regent_tree.specs.declared.rights.Access.{Access}
 use Rattle.regent_tree.specs.declared.rights.Access.TheVariants as access
+use Rattle.regent_tree.specs.declared.types.TypeTerm.{TypeTerm}
 use Rattle.regent_tree.specs.declared.statement.How.{How}
 use Rattle.regent_tree.specs.declared.statement.How.TheVariants as how
 use Rattle.regent_tree.specs.declared.typing.StaticType.{StaticType}
@@ -222,20 +223,20 @@ may_fill_first (by_rules task) tree s u f fs h l =
 -- ---- fields that partitions are made by
 
 -- the field by which a partition of a region of a type is made may be read
-pub may_scan : (way : Way) (w : Where) (x r f : Name) (init : Initializer) → IsRegion (bound w r).static_type →
+pub may_scan : (way : Way) (w : Where) (x : Name) (st : Option TypeTerm) (r f : Name) (init : Initializer) → IsRegion (bound w r).static_type →
     field_place w.tree (space_in (bound w r).static_type) f < length (space_at w.tree (space_in (bound w r).static_type)).fields →
     reads_in_initializer w.tree w.scope.names init ≡ wanted_of_region w.tree access.Read (bound w r).static_type f →
-    ToldForm way w.tree w.scope (var_form x None (Some init)) →
+    ToldForm way w.tree w.scope (var_form x st (Some init)) →
     May way w.tree w.scope (bound w r).static_type (field_place w.tree (space_in (bound w r).static_type) f) access.Read
-may_scan all_made w x r f init is l same h = tt
-may_scan (by_rules task) w x r f init is l same h =
+may_scan all_made w x st r f init is l same h = tt
+may_scan (by_rules task) w x st r f init is l same h =
     of (bound w r).static_type is l (subst (λ ws. lacks w.tree task w.scope ws ≡ false) same (rule_none _ rule.Read (scanned h.1.form)))
   where
-    scanned : first_of_form w.tree task w.scope (var_form x None (Some init)) ≡ None →
+    scanned : first_of_form w.tree task w.scope (var_form x st (Some init)) ≡ None →
         rule_if (lacks w.tree task w.scope (reads_in_initializer w.tree w.scope.names init)) rule.Read ≡ None
     scanned q =
-        let form = var_form x None (Some init) in
-        let a = option_or_parts (first_in (first_in_type w.tree w.scope.names) []) _ q in
+        let form = var_form x st (Some init) in
+        let a = option_or_parts (first_in (first_in_type w.tree w.scope.names) (declared_at form)) _ q in
         let b = option_or_parts (rule_if (has_no_type form) rule.Type) _ a.1 in
         let c = option_or_parts (first_in (first_in_expression w.tree task w.scope) (heads_of w.scope.names form)) _ b.1 in
         let d = option_or_parts (first_in_targets w.tree task w.scope form) _ c.1 in

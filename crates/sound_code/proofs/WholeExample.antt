@@ -1,17 +1,27 @@
--- The premises of the law on tasks that hand over no partitions hold of a program that keeps pointers.
+-- The premises of the law on whole programs hold of a program that keeps pointers.
 use Rattle.std.proofs.Common.{[], ◌∷◌, pos, refl, arith}
 use Rattle.std.proofs.lemmas.Int.{ints}
 use Rattle.regent_tree.specs.Limits.{parts_of_program, WithinLimits}
 use Rattle.code_laws.proofs.LocalExample.{all_keep}
 use Rattle.sound_code.specs.Programs.{IsWholeProgramRun}
-use Rattle.sound_code.specs.WholeExample.{follows_program, WholeExampleHolds}
+use Rattle.worked_examples.specs.Pointers.{circuit_program}
+use Rattle.sound_code.specs.WholeExample.{CircuitIsSound, follows_program, WholeExampleHolds}
 use Rattle.sound_code.proofs.Rules.{whole_programs_are_sound}
 
 within : WithinLimits follows_program
 within = record { each = all_keep (parts_of_program follows_program) refl; nodes = omega (arith) }
 
 run : IsWholeProgramRun follows_program (pos 2 ∷ [])
-run = record { run = record { within = within; accepted = refl; local = refl; numbers = (omega (arith, ints), tt) }; whole = refl }
+run = record { run = record { within = within; accepted = refl; local = refl; numbers = (omega (arith, ints), tt) }; free = refl }
 
 pub whole_example_holds : WholeExampleHolds
 whole_example_holds = record { run = run; sound = whole_programs_are_sound follows_program (pos 2 ∷ []) run }
+
+circuit_within : WithinLimits circuit_program
+circuit_within = record { each = all_keep (parts_of_program circuit_program) refl; nodes = omega (arith) }
+
+circuit_run : IsWholeProgramRun circuit_program []
+circuit_run = record { run = record { within = circuit_within; accepted = refl; local = refl; numbers = tt }; free = refl }
+
+pub circuit_is_sound : CircuitIsSound
+circuit_is_sound = record { run = circuit_run; sound = whole_programs_are_sound circuit_program [] circuit_run }

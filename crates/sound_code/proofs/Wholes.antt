@@ -1,12 +1,10 @@
--- What is asked of a task where it may keep pointers: that it takes no part of a partition. So what it reads, keeps, assigns, fills in
--- and hands over is a number, a truth, an index, an index space or a pointer of few regions.
+-- What is asked of a task where it may keep pointers: what it reads, keeps, assigns and fills in is a number, a truth, an index, an index
+-- space or a pointer of few regions, and so is what it hands over, but for regions, parts and partitions.
 use Rattle.std.proofs.Common.{◌≡◌, ◌⊎◌, inl, inr, ℕ, ◌≤◌, Bool, true, false, ◌&&◌, ◌||◌, List, None, Option, Some, refl, sym, ap, ◌∙◌, subst, arith, ⊎_elim}
 use Rattle.std.specs.Prelude.{length}
 use Rattle.std.proofs.lemmas.Bool.{and_parts, false≢true, leb-true, or_cases}
-use Rattle.regent_tree.specs.Syntax.{access_expr, assign_form, at_step, Expression, field_step, Name, no_step, Steps}
+use Rattle.regent_tree.specs.Syntax.{access_expr, at_step, Expression, field_step, Name, no_step, Steps}
 use Rattle.regent_tree.specs.Typing.{owned, reaches_of, stepped_type, type_of_field}
-use Rattle.regent_tree.specs.declared.statement.How.{How}
-use Rattle.regent_tree.specs.declared.statement.How.TheVariants as how
 use Rattle.regent_tree.specs.declared.types.Kind.{Kind}
 use Rattle.regent_tree.specs.declared.typing.Bound.{Bound}
 use Rattle.regent_tree.specs.declared.typing.StaticType.{StaticType}
@@ -15,17 +13,17 @@ use Rattle.regent_tree.specs.StaticTypes.{Reach}
 use Rattle.check_rules.specs.types.Sorts.{is_partition, is_region}
 use Rattle.code_rules.specs.Slots.{bound, typed, Where}
 use Rattle.code_laws.specs.Arguments.{IsHanded, IsHandedPart}
-use Rattle.code_laws.specs.Pointers.{a_pointer_type, Assigned, assigned_plain, assigned_pointer, Begins, begins_plain, begins_pointer, Filled, filled_plain, filled_pointer, fills_alike, fills_index, GoesInto, into_plain, BeginsAs, BeginsWith, IsAssigned, KeepsAs, keeps_index, keeps_plain, keeps_pointer, zero_scalar, IsPointer, IsRead, Passes, passes_plain, passes_pointer, PassesInto}
-use Rattle.code_laws.specs.Simple.{a_partition_type, a_region_type, AreAlike, IsPartition, IsRegion, fits_32, fits_64, fits_truth, IsSimple, number_index, number_integer, simple_index, simple_integer, simple_space, simple_truth, two_integers, two_truths}
+use Rattle.code_laws.specs.Pointers.{a_pointer_type, Assigned, assigned_plain, assigned_pointer, Begins, begins_plain, begins_pointer, Filled, filled_index, filled_plain, filled_pointer, fills_alike, fills_index, GoesInto, into_index, into_plain, BeginsAs, BeginsWith, IsAssigned, KeepsAs, keeps_index, keeps_plain, keeps_pointer, zero_scalar, IsPointer, IsRead, Passes, passes_plain, passes_pointer, PassesInto}
+use Rattle.code_laws.specs.Simple.{a_partition_type, a_region_type, AreAlike, AreRegions, IsPartition, IsRegion, fits_32, fits_64, fits_truth, IsSimple, number_index, number_integer, simple_index, simple_integer, simple_space, simple_truth, two_integers, two_regions, two_truths}
 use Rattle.code_laws.specs.Steps.{Forms, Taking}
-use Rattle.code_laws.specs.Typed.{AreFurther, IsBegun, IsDifference, IsKeepable, IsTypedForm}
+use Rattle.code_laws.specs.Typed.{AreFurther, BeginsAsPart, IsBegun, IsDifference, IsKeepable}
 use Rattle.code_laws.proofs.Arguments.{alike_other, given_by, goes_other, IsCutArgument, IsNoRegion, IsPartArgument, passes_other}
 use Rattle.code_laws.proofs.Wider.{into_simple, keepable, zero_simple}
 use Rattle.lane_kernels.specs.declared.numbers.FieldKind.{FieldKind}
 use Rattle.fit_rules.specs.Shapes.{pointer, numeric_index, numeric_integer, numeric_pointer, numeric_truth}
 use Rattle.fit_rules.specs.Sound.{Settled, settled_number, settled_space}
 use Rattle.sound_code.specs.Named.{IsNumbered}
-use Rattle.sound_code.specs.WholeTasks.{is_value, is_whole_expression, names_region, takes_part}
+use Rattle.sound_code.proofs.WholeTasks.{is_value, is_whole_expression, names_region, takes_part}
 use Rattle.sound_code.specs.Ways.{shape_in, shape_of, Way}
 
 -- where pointers may be kept, it is so
@@ -136,6 +134,7 @@ begins_becomes bs t u (begins_pointer _ _ p q) = to_pointer t u p q.0
 
 pub filled_becomes : (t u : StaticType) → Filled t u → Becomes t u
 filled_becomes t u (filled_plain _ _ g) = becomes_plain t u (into_plain t u g)
+filled_becomes _ _ (filled_index k sp args rs j) = becomes_plain _ _ (into_index k sp args rs j)
 filled_becomes t u (filled_pointer _ _ p q) = to_pointer t u p q
 
 pub alike_becomes : (t u : StaticType) → AreAlike t u → Becomes t u
@@ -152,7 +151,26 @@ pub record Enters (from t p : StaticType) : Type 0 where
   pub other : IsNoRegion from
 
 abbrev pub AsksArgument : Bool → Where → StaticType → Expression → Type 0
-AsksArgument b w p e = Asks b ((is_region p || is_value true p) && (names_region w e || (takes_part true w e || is_whole_expression true w e)))
+AsksArgument b w p e =
+    Asks b (is_partition p || ((is_region p || is_value true p) && (names_region w e || (takes_part true w e || is_whole_expression true w e))))
+
+-- of what is given for a parameter that is no partition
+simple_asked : (p : StaticType) (x : Bool) → IsSimple p → (is_partition p || x) ≡ true → x ≡ true
+simple_asked _ x (simple_integer w) h = h
+simple_asked _ x simple_truth h = h
+simple_asked _ x (simple_index k) h = h
+simple_asked _ x (simple_space k) h = h
+
+passed_asked : (from t p : StaticType) (x : Bool) → Passes from t p → (is_partition p || x) ≡ true → x ≡ true
+passed_asked from _ _ x (passes_plain _ p g) h = simple_asked p x (into_simple from p g) h
+passed_asked from _ _ x (passes_pointer _ k sp args brgs rs qs is same) h = h
+
+worth_asked : (p : StaticType) (x : Bool) → IsWorth p → (is_partition p || x) ≡ true → x ≡ true
+worth_asked p x (worth_simple _ s) h = simple_asked p x s h
+worth_asked _ x (worth_pointer k sp args rs few) h = h
+
+pub regions_asked : (t p : StaticType) (x : Bool) → AreRegions t p → (is_partition p || x) ≡ true → x ≡ true
+regions_asked _ _ x (two_regions c d sp args brgs r q) h = h
 
 entered : (from t p : StaticType) → Passes from t p → (is_region p || is_value true p) ≡ true → Enters from t p
 entered from _ _ (passes_plain _ p g) h =
@@ -167,15 +185,11 @@ entered from _ _ (passes_pointer _ k sp args brgs rs qs is same) h =
       other = passes_other from _ _ (passes_pointer from k sp args brgs rs qs is same);
     }
 
--- no partition is asked for
-no_partition : (p : StaticType) (b : Bool) → IsPartition p → ((is_region p || is_value true p) && b) ≡ true → ⊥
-no_partition _ b (a_partition_type d r q) h = false≢true h
-
--- what is given is a value that enters the parameter, a region's name, or a part
+-- what is given is a value that enters the parameter, a region's name, a part, or a partition's name
 pub given_whole : (b : Bool) (o : Option Taking) (w : Where) (t p : StaticType) (e : Expression) (Typed Part Goal : Type 0) → AsksArgument b w p e →
     (Enters (typed w e) t p → Typed → Goal) → ((y : Taking) → o ≡ Some y → IsHanded (Some y) w t p e → Goal) →
-    (b ≡ true → IsPartArgument o w t p e Part → Goal) → (PassesInto b (typed w e) t p × Typed) ⊎ (IsHanded o w t p e ⊎ IsHandedPart b o w t p e Part) → Goal
-given_whole false o w t p e Typed Part Goal asks this that part (inl a) =
+    (b ≡ true → IsPartArgument o w t p e Part → Goal) → (b ≡ true → IsCutArgument o w t p e → Goal) → (PassesInto b (typed w e) t p × Typed) ⊎ (IsHanded o w t p e ⊎ IsHandedPart b o w t p e Part) → Goal
+given_whole false o w t p e Typed Part Goal asks this that part cut (inl a) =
     let s = alike_simple (typed w e) t a.0.0 in
     this (record {
       goes = alike_becomes (typed w e) t a.0.0;
@@ -184,19 +198,17 @@ given_whole false o w t p e Typed Part Goal asks this that part (inl a) =
       worth = subst IsWorth a.0.1 (worth_simple t s);
       other = alike_other (typed w e) t a.0.0;
     }) a.1
-given_whole false None w t p e Typed Part Goal asks this that part (inr (inl h)) = absurd h
-given_whole false (Some y) w t p e Typed Part Goal asks this that part (inr (inl h)) = that y refl h
-given_whole false o w t p e Typed Part Goal asks this that part (inr (inr h)) = absurd h
-given_whole true o w t p e Typed Part Goal asks this that part g = given_by true o w t p e Typed Part Goal
-    (λ q. this (entered (typed w e) t p q (and_parts _ _ (asks refl)).0)) that
-    (part refl)
-    (λ (a : IsCutArgument o w t p e). absurd (no_partition p _ a.partition (asks refl))) g
+given_whole false None w t p e Typed Part Goal asks this that part cut (inr (inl h)) = absurd h
+given_whole false (Some y) w t p e Typed Part Goal asks this that part cut (inr (inl h)) = that y refl h
+given_whole false o w t p e Typed Part Goal asks this that part cut (inr (inr h)) = absurd h
+given_whole true o w t p e Typed Part Goal asks this that part cut g = given_by true o w t p e Typed Part Goal
+    (λ q. this (entered (typed w e) t p q (and_parts _ _ (passed_asked (typed w e) t p _ q (asks refl))).0)) that (part refl) (cut refl) g
 
 -- a value that is no region's is no region's name
-pub whole_argument : (b : Bool) (w : Where) (p : StaticType) (e : Expression) → AsksArgument b w p e → IsNoRegion (typed w e) → (takes_part true w e ≡ true → ⊥) →
-    Asks b (is_whole_expression true w e)
-whole_argument b w p e h other none q = ⊎_elim (λ r. absurd (of_region e r other)) (λ s. ⊎_elim (λ c. absurd (none c)) (λ y. y) (or_cases (takes_part true w e) _ s))
-    (or_cases (names_region w e) _ (and_parts _ _ (h q)).1)
+pub whole_argument : (b : Bool) (w : Where) (p : StaticType) (e : Expression) → AsksArgument b w p e → IsWorth p → IsNoRegion (typed w e) →
+    (takes_part true w e ≡ true → ⊥) → Asks b (is_whole_expression true w e)
+whole_argument b w p e h worth other none q = ⊎_elim (λ r. absurd (of_region e r other)) (λ s. ⊎_elim (λ c. absurd (none c)) (λ y. y) (or_cases (takes_part true w e) _ s))
+    (or_cases (names_region w e) _ (and_parts _ _ (worth_asked p _ worth (h q))).1)
   where
     no_other : (u : StaticType) → is_region u ≡ true → IsNoRegion u → ⊥
     no_other (region_type k sp args r) e h = h
@@ -241,12 +253,37 @@ kept_no_cut _ (kept_simple _ (simple_index k)) e = false≢true e
 kept_no_cut _ (kept_simple _ (simple_space k)) e = false≢true e
 kept_no_cut _ (kept_pointer _ (a_pointer_type k sp args rs names)) e = false≢true e
 
-pub begun_whole : (b : Bool) (w : Where) (e : Expression) (v : Bool) (Typed : Type 0) → IsBegun b w e (IsKeepable b w e × Typed) →
-    Asks b (is_partition (typed w e) || v) → ((IsKeepable b w e × Typed) × Asks b v) ⊎ ((b ≡ true) × IsDifference w e)
-begun_whole false w e v Typed p h = inl (p, not_kept false v refl)
-begun_whole true w e v Typed (inl p) h =
-    inl (p, λ q. ⊎_elim (λ c. absurd (kept_no_cut (typed w e) (kept_of true w e p.0) c)) (λ y. y) (or_cases (is_partition (typed w e)) v (h q)))
-begun_whole true w e v Typed (inr d) h = inr (refl, d)
+-- a part is no such value, nor a partition
+no_region_kept : (n : ℕ) (v : Bool) (t : StaticType) → IsRegion t → (is_partition t || (is_value true (owned n t) && v)) ≡ true → ⊥
+no_region_kept n v _ (a_region_type k sp args r) e = false≢true e
+
+no_part_begins : (o : Option Taking) (w : Where) (e : Expression) (v : Bool) (Part : Type 0) → BeginsAsPart o w e Part →
+    (is_partition (typed w e) || (is_value true (owned w.scope.next (typed w e)) && v)) ≡ true → ⊥
+no_part_begins o w (access_expr n (at_step e no_step)) v Part d h =
+    no_region_kept w.scope.next v (typed w (access_expr n (at_step e no_step))) d.0.2 h
+no_part_begins o w _ v Part d h = absurd d
+
+pub begun_whole : (b : Bool) (o : Option Taking) (w : Where) (e : Expression) (v : Bool) (Typed Part : Type 0) →
+    IsBegun b w e (IsKeepable b w e × Typed) (BeginsAsPart o w e Part) →
+    Asks b (is_partition (typed w e) || (is_value true (owned w.scope.next (typed w e)) && v)) →
+    ((IsKeepable b w e × Typed) × Asks b (is_value true (owned w.scope.next (typed w e)) && v)) ⊎ ((b ≡ true) × IsDifference w e)
+begun_whole false o w e v Typed Part p h = inl (p, not_kept false (is_value true (owned w.scope.next (typed w e)) && v) refl)
+begun_whole true o w e v Typed Part (inl p) h =
+    inl (
+      p,
+      λ q. ⊎_elim (λ c. absurd (kept_no_cut (typed w e) (kept_of true w e p.0) c)) (λ y. y)
+          (or_cases (is_partition (typed w e)) (is_value true (owned w.scope.next (typed w e)) && v) (h q)),
+    )
+begun_whole true o w e v Typed Part (inr (inl d)) h = inr (refl, d)
+begun_whole true o w e v Typed Part (inr (inr d)) h = absurd (no_part_begins o w e v Part d (h refl))
+
+-- a part that a variable begins as
+region_few : (t : StaticType) → IsRegion t → HasFew t
+region_few _ (a_region_type k sp args r) = omega arith
+
+pub begun_part_few : (o : Option Taking) (w : Where) (e : Expression) (Part : Type 0) → BeginsAsPart o w e Part → HasFew (typed w e)
+begun_part_few o w (access_expr n (at_step e no_step)) Part d = region_few (typed w (access_expr n (at_step e no_step))) d.0.2
+begun_part_few o w _ Part d = absurd d
 
 -- a variable of its value's type is worth it
 pub begun_worth : (b : Bool) (w : Where) (e : Expression) (n : ℕ) → IsKeepable b w e → Asks b (is_value true (owned n (typed w e))) → IsWorth (typed w e)
@@ -281,21 +318,11 @@ further_few forms w no_step t f fine = field_few _ _ _ fine.0.keeps
 further_few forms w (field_step g rest) t f fine = further_few forms w rest (type_of_field w.tree t f) g fine.1
 further_few forms w (at_step e rest) t f fine = absurd fine.1
 
--- pointers are kept where such a field is assigned
-pub behind_kept : (forms : Forms) (w : Where) (n f g : Name) (rest : Steps) (h : How) (y : Expression) →
-    IsTypedForm forms w (assign_form n (field_step f (field_step g rest)) h y) → forms.keeps ≡ true
-behind_kept forms w n f g rest how.Set y fine = fine.0
-behind_kept forms w n f g rest (how.Reduce o) y fine = fine.0
-
-pub element_kept : (forms : Forms) (w : Where) (n : Name) (i : Expression) (f g : Name) (rest : Steps) (h : How) (y : Expression) →
-    IsTypedForm forms w (assign_form n (at_step i (field_step f (field_step g rest))) h y) → forms.keeps ≡ true
-element_kept forms w n i f g rest how.Set y fine = fine.0
-element_kept forms w n i f g rest (how.Reduce o) y fine = fine.0
-
 -- with what a field is filled
 pub filled_settled : (t u : StaticType) → Filled t u → Settled (shape_of t)
 filled_settled _ _ (filled_plain _ _ (fills_alike _ _ (two_integers v w))) = settled_number _ (numeric_integer v)
 filled_settled _ _ (filled_plain _ _ (fills_alike _ _ two_truths)) = settled_number _ numeric_truth
 filled_settled _ _ (filled_plain _ _ (fills_index _ k (number_integer v))) = settled_number _ (numeric_integer v)
 filled_settled _ _ (filled_plain _ _ (fills_index _ k (number_index i))) = settled_number _ numeric_index
+filled_settled _ _ (filled_index k sp args rs j) = settled_number _ (numeric_pointer _)
 filled_settled _ _ (filled_pointer _ _ (a_pointer_type k sp args rs names) q) = settled_number _ (numeric_pointer _)

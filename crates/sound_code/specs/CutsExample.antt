@@ -1,5 +1,5 @@
--- An accepted program that makes partitions in each way, also of those that a task is given, so that the law on tasks that take no
--- parts of partitions is a law of something there too.
+-- An accepted program that makes partitions in each way, also of those that a task is given, and hands one over, so that the law on
+-- whole programs is a law of something there too.
 use Rattle.std.specs.Prelude.{[], ◌∷◌, codes, pos, true}
 use Rattle.regent_tree.specs.Syntax.{Tree}
 use Rattle.regent_tree.specs.declared.expression.Arithmetic.TheVariants.{Subtract}
@@ -7,7 +7,7 @@ use Rattle.regent_tree.specs.declared.program.Clause.TheVariants as clause
 use Rattle.regent_tree.specs.declared.program.Grant.TheVariants.{Reads}
 use Rattle.regent_tree.specs.declared.types.Kind.TheVariants.{Int1d}
 use Rattle.regent_tree.specs.declared.types.NumberTerm.TheVariants.{Index, Int64}
-use Rattle.worked_examples.specs.Words.{access, at, both, by_field, calc, dot, each, either, equal, field_space, fields, fill, get, grants, image, int, item, line, new_region, number, param, partition, preimage, region, set, space, space_of, task, var, var_as, var_from}
+use Rattle.worked_examples.specs.Words.{access, at, both, by_field, calc, call, dot, each, either, equal, field_space, fields, fill, get, grants, image, int, item, line, new_region, number, param, partition, preimage, region, set, space, space_of, task, var, var_as, var_from}
 use Rattle.sound_code.specs.Programs.{IsWholeProgramRun, LocalRunsSoundly}
 
 --     fspace f { x : int64, to : int1d }
@@ -30,6 +30,7 @@ use Rattle.sound_code.specs.Programs.{IsWholeProgramRun, LocalRunsSoundly}
 --       var d = image(r, p, r.to)
 --       var e = preimage(r, c, r.to)
 --       for k in e.colors do r[k].to = i end
+--       look(r, r, p)
 --     end
 abbrev pub cuts_program : Tree
 cuts_program =
@@ -56,6 +57,7 @@ cuts_program =
     ∷ line 18 (var_from "d" (image "r" "p" "r" "to"))
     ∷ line 19 (var_from "e" (preimage "r" "c" "r" "to"))
     ∷ line 20 (each "k" (access "e" (dot "colors" ∷ [])) (line 20 (set "r" (at (get "k") ∷ dot "to" ∷ []) (get "i")) ∷ []))
+    ∷ line 21 (call "look" (get "r" ∷ get "r" ∷ get "p" ∷ []))
     ∷ []))
     ∷ []
 

@@ -12,7 +12,7 @@ use Rattle.task_code.specs.declared.code.Line.{Line}
 use Rattle.task_code.specs.declared.code.TaskCode.{TaskCode}
 use Rattle.machine_terms.specs.Jumps.{fetch}
 use Rattle.code_rules.specs.Used.{slots_used}
-use Rattle.fit_rules.specs.Shapes.{Among, Each, Shape, anything, region, Origin, own_as, part}
+use Rattle.fit_rules.specs.Shapes.{Among, cut_from, Each, Shape, anything, region, Origin, own_as, part}
 use Rattle.fit_rules.specs.Marks.{apart, counts, Fact, in_slot, lies, Mark, parted}
 use Rattle.sound_code.specs.Ways.{Way, origin_in, shape_in}
 
@@ -46,6 +46,7 @@ IsOfNumber bs o = Unit {0}
 
 abbrev pub IsNumbered : List Bound → Shape → Type 0
 IsNumbered bs (region sp o) = IsOfNumber bs o
+IsNumbered bs (cut_from sp d o) = IsOfNumber bs o
 IsNumbered bs s = Unit {0}
 
 -- what a partition's parent is bound to

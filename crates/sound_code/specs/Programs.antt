@@ -35,7 +35,7 @@ use Rattle.fit_rules.specs.Sound.{IsSound}
 use Rattle.fit_laws.specs.Segments.{PassesTest}
 use Rattle.check_rules.specs.Breaches.{breaches}
 use Rattle.fit_rules.specs.Marks.{Holds}
-use Rattle.sound_code.specs.WholeTasks.{is_whole_program}
+use Rattle.sound_code.specs.FreeCalls.{is_free_program}
 use Rattle.sound_code.specs.Ways.{by_rules, opening_facts, shape_in, shape_of}
 
 -- the entry task's code
@@ -179,10 +179,11 @@ pub record LocalRunsSoundly (tree : Tree) (inputs : List ℤ) : Type 0 where
 abbrev pub LocalProgramsAreSound : Type 0
 LocalProgramsAreSound = (tree : Tree) (inputs : List ℤ) → IsPlainProgramRun tree inputs → LocalRunsSoundly tree inputs
 
--- one whose tasks hand regions over by name, no partitions, and parts only where no constraint speaks of them
+-- one of the whole local form, in no call of which a constraint speaks of two parts of one partition, no variable of which begins as a
+-- part, and whose fills each name a field, as those of a text do
 pub record IsWholeProgramRun (tree : Tree) (inputs : List ℤ) : Type 0 where
   pub run : IsLocalProgramRun tree inputs
-  pub whole : is_whole_program false tree ≡ true
+  pub free : is_free_program tree ≡ true
 
 -- so it is of each such program
 abbrev pub WholeProgramsAreSound : Type 0

@@ -1,5 +1,6 @@
 -- An accepted program whose tasks keep indices and pointers, go over regions and parts of partitions and are given pointers and
--- parts, so that the law on tasks that hand over no partitions is a law of something.
+-- parts, so that the law on whole programs is a law of something; and the circuit of worked_examples, whose fields go on behind fields, and
+-- whose parts are handed over where a constraint speaks of them.
 use Rattle.std.specs.Prelude.{[], ◌∷◌, pos}
 use Rattle.regent_tree.specs.Syntax.{assert_form, cast_expr, is_null_expr, null_expr, Tree}
 use Rattle.lane_kernels.specs.declared.numbers.Op.TheVariants.{Sum}
@@ -9,6 +10,7 @@ use Rattle.regent_tree.specs.declared.program.Grant.TheVariants.{Reads, Writes}
 use Rattle.regent_tree.specs.declared.types.Kind.TheVariants.{Int1d}
 use Rattle.regent_tree.specs.declared.types.NumberTerm.TheVariants.{Index, Int64}
 use Rattle.worked_examples.specs.Words.{access, at, calc, call, compare, dot, each, equal, field_space, fields, fill, get, grants, int, item, line, new_region, number, param, pointer, points_into, reduce, ref, region, set, space, space_of, task, var, var_as, var_from, when}
+use Rattle.worked_examples.specs.Pointers.{circuit_program}
 use Rattle.sound_code.specs.Programs.{IsWholeProgramRun, LocalRunsSoundly}
 
 --     fspace f { x : int64, next : int1d }
@@ -84,3 +86,7 @@ follows_program =
 pub record WholeExampleHolds : Type 0 where
   pub run : IsWholeProgramRun follows_program (pos 2 ∷ [])
   pub sound : LocalRunsSoundly follows_program (pos 2 ∷ [])
+
+pub record CircuitIsSound : Type 0 where
+  pub run : IsWholeProgramRun circuit_program []
+  pub sound : LocalRunsSoundly circuit_program []

@@ -8,7 +8,7 @@ ghost use Rattle.sound_code.specs.Example.{CodeExampleHolds};
 ghost use Rattle.sound_code.specs.HandingExample.{HandedIsSound, HandsExampleHolds};
 ghost use Rattle.sound_code.specs.RulesExample.{HistogramIsSound, RulesExampleHolds};
 ghost use Rattle.sound_code.specs.Programs.{AcceptedTasksAreSound, CallsAreSound, HandingTasksAreSound, LocalProgramsAreSound, RegionTasksAreSound, ScalarProgramsAreSound, ScalarTasksAreSound, WholeProgramsAreSound};
-ghost use Rattle.sound_code.specs.WholeExample.{WholeExampleHolds};
+ghost use Rattle.sound_code.specs.WholeExample.{CircuitIsSound, WholeExampleHolds};
 
 /// Where the entry task's body is typed and treats scalars alone, its code is sound, and the frame in which
 /// its run begins fits, whatever its inputs and turns; and so it is of each accepted program over scalars.
@@ -53,9 +53,9 @@ pub fn local_programs_are_sound()
     ensures { LocalProgramsAreSound }
 {}
 
-/// So is the code of each accepted program whose tasks hand regions over by name, no partitions, and parts of these only for
-/// parameters of which no constraint speaks. Indices and pointers are kept, handed over and had in fields, through pointers fields are read, written and reduced, loops go over
-/// regions and parts of partitions, and partitions are made, also of others, and their colours are gone through.
+/// So is the code of each accepted program of the local form in no call of which a constraint speaks of two parts of one
+/// partition, and no variable of which begins as a part: indices and pointers are kept, handed over and had in fields, through pointers fields are read, written and reduced,
+/// loops go over regions and parts of partitions, and partitions are made, also of others, and handed over, as their parts are.
 #[tactic(auto, using(crate::proofs::Rules::whole_programs_are_sound))]
 pub fn whole_programs_are_sound()
     ensures { WholeProgramsAreSound }
@@ -84,13 +84,15 @@ pub fn handing_example_holds()
 {}
 
 /// An accepted program that keeps indices and pointers, goes over a region and hands a pointer over, of which each premise
-/// holds.
-#[tactic(auto, using(crate::proofs::WholeExample::whole_example_holds))]
+/// holds; and the circuit of worked_examples.
+#[tactic(auto, using(crate::proofs::WholeExample::whole_example_holds, crate::proofs::WholeExample::circuit_is_sound))]
 pub fn whole_example_holds()
-    ensures { WholeExampleHolds }
+    ensures follows { WholeExampleHolds }
+    ensures circuit { CircuitIsSound }
 {}
 
-/// An accepted program that makes partitions in each way, also of one that a task is given, of which each premise holds.
+/// An accepted program that makes partitions in each way, also of one that a task is given, and hands one over, of which each
+/// premise holds.
 #[tactic(auto, using(crate::proofs::CutsExample::cuts_example_holds))]
 pub fn cuts_example_holds()
     ensures { CutsExampleHolds }

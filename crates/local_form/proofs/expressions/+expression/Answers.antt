@@ -1,5 +1,7 @@
-use Rattle.std.proofs.Common.{◌∙◌, sym}
+use Rattle.std.proofs.Common.{◌∙◌, ap, sym}
 use Rattle.regent_tree.proofs.Rows.{expressions_of_vec, links_of_vec, steps_of_vec}
+use Rattle.regent_tree.specs.Plain.{expression_of}
+use Rattle.local_form.specs.Expressions.{gives_scalar, is_local_expression, takes_signs}
 use Rattle.local_form.proofs.Laws.{second_tells, two_part}
 use Rattle.local_form.proofs.expressions.+expression.Goals as goal
 
@@ -7,6 +9,14 @@ pub is_local_expression-returns-then-is_local_expression : goal.is_local_express
 is_local_expression-returns-then-is_local_expression t c =
     rw (c.in-Chain.is, links_of_vec c.in-Chain.rest, ← c.deref.ensures, ← c.as_slice.ensures.value)
     (second_tells _ _ _ (sym c.if-is_local_expression.true ∙ c.is_local_expression.ensures) c.are_local_links.ensures)
+
+pub is_local_expression-returns-then-is_signed : goal.is_local_expression-returns-then-is_signed
+is_local_expression-returns-then-is_signed t c =
+    rw (c.in-Prefix.is, ← c.as_slice-in-Prefix.ensures)
+    (second_tells _ _ _
+    (sym c.if-is_signed.true ∙ c.is_signed.ensures ∙
+    ap (λ e. takes_signs c.args.marked.now c.as_slice-in-Prefix.result.now (gives_scalar c.args.marked.now (expression_of e))) c.deref-in-Prefix.ensures)
+    (c.is_local_expression-then-is_signed.ensures ∙ ap (λ e. is_local_expression c.args.marked.now (expression_of e)) c.deref-then-is_signed.ensures))
 
 pub is_local_expression-returns-in-Access : goal.is_local_expression-returns-in-Access
 is_local_expression-returns-in-Access t c =

@@ -1,15 +1,10 @@
--- Tasks that hand over no partitions: each name in an expression has a number, a truth, an index, an index space or a pointer, but
--- for regions of which elements are taken, which are handed over, or over which a loop goes, and partitions whose colours
--- are had, whose parts are handed over or gone through, or of which others are made. A part is handed over for a parameter of
--- which no constraint speaks. No field is taken of what a field goes to, in one step.
-use Rattle.std.specs.Prelude.{Option, Bool, true, false, not, List, [], ◌∷◌, ◌&&◌, ◌||◌, length, nat_le, Some, None}
-use Rattle.std.specs.List.{list_all, list_any}
-use Rattle.regent_tree.specs.StaticTypes.{place_in, task_named}
-use Rattle.regent_tree.specs.declared.program.Clause.{Clause}
-use Rattle.regent_tree.specs.declared.program.Clause.TheVariants as clause
-use Rattle.regent_tree.specs.declared.types.Param.{Param}
-use Rattle.code_laws.specs.Arguments.{part_at}
-use Rattle.regent_tree.specs.Syntax.{cast_expr, is_null_expr, null_expr, a_link, a_statement, access_expr, an_arm, an_expr, Arms, assert_form, assign_form, at_step, both_initializer, by_field_initializer, either_initializer, equal_initializer, image_initializer, preimage_initializer, Block, call_expr, call_form, chain_expr, convert_expr, do_form, else_block, Expression, Expressions, field_step, fill_form, for_in_form, for_to_form, Form, if_form, Links, Name, no_arm, no_else, no_expr, no_link, no_statement, no_step, number_expr, Otherwise, plain_initializer, prefix_expr, print_form, region_initializer, return_form, space_expr, TaskTree, then_statement, Tree, truth_expr, var_form, while_form}
+-- What is asked of a task inside the proof: each name that is read has a number, a truth, an index, an index space or a pointer, which goes
+-- into few regions. Regions stand where elements are taken of them, where they are handed over or gone through; partitions where
+-- their colours are had, where they or their parts are handed over or gone through, or others are made of them.
+use Rattle.std.specs.Prelude.{Bool, true, false, not, List, [], ◌∷◌, ◌&&◌, ◌||◌, length, nat_le, Some, None}
+use Rattle.std.specs.List.{list_all}
+use Rattle.regent_tree.specs.StaticTypes.{task_named}
+use Rattle.regent_tree.specs.Syntax.{cast_expr, is_null_expr, null_expr, a_link, a_statement, access_expr, an_arm, an_expr, Arms, assert_form, assign_form, at_step, both_initializer, by_field_initializer, either_initializer, equal_initializer, image_initializer, preimage_initializer, Block, call_expr, call_form, chain_expr, convert_expr, do_form, else_block, Expression, Expressions, field_step, fill_form, for_in_form, for_to_form, Form, if_form, Links, no_arm, no_else, no_expr, no_link, no_statement, no_step, number_expr, Otherwise, plain_initializer, prefix_expr, print_form, region_initializer, return_form, space_expr, TaskTree, then_statement, Tree, truth_expr, var_form, while_form}
 use Rattle.regent_tree.specs.Typing.{param_types, arithmetic_type, taken_from, var_type}
 use Rattle.regent_tree.specs.declared.typing.StaticType.{StaticType}
 use Rattle.regent_tree.specs.declared.typing.StaticType.TheVariants.{Integer as integer_type, Truth as truth_type, Index as index_type, Pointer as pointer_type, Ispace as ispace_type}
@@ -18,6 +13,7 @@ use Rattle.code_rules.specs.Instructions.{tasks_of}
 use Rattle.code_rules.specs.Programs.{place_of}
 use Rattle.code_rules.specs.Slots.{bound, typed, Where}
 use Rattle.code_rules.specs.Statements.{after_arm, after_arms, after_form, looping, on_line}
+use Rattle.sound_code.specs.FreeCalls.{are_free}
 
 -- a number, a truth, an index, an index space, or a pointer; where that is asked (`few`), its type names at most four regions,
 -- which is the limit of a text
@@ -36,19 +32,6 @@ abbrev pub names_region : Where → Expression → Bool
 names_region w (access_expr n no_step) = is_region (bound w n).static_type
 names_region w e = false
 
--- whether a part stands as an argument for a parameter of which a constraint speaks, and whether none does
-abbrev pub is_given : Option (Name × Expression) → Bool
-is_given None = false
-is_given (Some q) = true
-
-abbrev pub binds_part : List Param → Expressions → Clause → Bool
-binds_part ps es (clause.Within a b) = is_given (part_at es (place_in ps a)) || is_given (part_at es (place_in ps b))
-binds_part ps es (clause.Apart a b) = is_given (part_at es (place_in ps a)) || is_given (part_at es (place_in ps b))
-binds_part ps es (clause.Grants grants places) = false
-
-abbrev pub are_free : TaskTree → Expressions → Bool
-are_free t es = not (list_any (binds_part t.params es) t.clauses)
-
 abbrev mutual
   -- each name in it has such a value, but for regions of which elements are taken
   pub is_whole_expression : Bool → Where → Expression → Bool
@@ -57,9 +40,9 @@ abbrev mutual
   is_whole_expression few w (chain_expr first rest) = is_whole_expression few w first && are_whole_links few w rest
   is_whole_expression few w (prefix_expr signs e) = is_whole_expression few w e
   is_whole_expression few w (access_expr n no_step) = is_value few (bound w n).static_type
-  is_whole_expression few w (access_expr n (field_step f no_step)) = true
+  is_whole_expression few w (access_expr n (field_step f rest)) = true
   is_whole_expression few w (access_expr n (at_step e no_step)) = is_region (bound w n).static_type && is_whole_expression few w e
-  is_whole_expression few w (access_expr n (at_step e (field_step f no_step))) = is_whole_expression few w e
+  is_whole_expression few w (access_expr n (at_step e (field_step f rest))) = is_whole_expression few w e
   is_whole_expression few w (call_expr task args) =
       are_whole_arguments few w (param_types w.tree (task_named w.tree task)) args && are_free (task_named w.tree task) args
   is_whole_expression few w (convert_expr t e) = is_whole_expression few w e
@@ -73,11 +56,12 @@ abbrev mutual
   are_whole_links few w no_link = true
   are_whole_links few w (a_link o e rest) = is_whole_expression few w e && are_whole_links few w rest
 
-  -- a region's name, a part of a name's partition, or such an expression, for each of parameters of these types
+  -- what is given for each of parameters of these types: a region's name, a part of a name's partition, or such an expression, and
+  -- for a partition what is one
   pub are_whole_arguments : Bool → Where → List StaticType → Expressions → Bool
   are_whole_arguments few w [] no_expr = true
   are_whole_arguments few w (p ∷ ps) (an_expr e es) =
-      ((is_region p || is_value few p) && (names_region w e || (takes_part few w e || is_whole_expression few w e)))
+      (is_partition p || ((is_region p || is_value few p) && (names_region w e || (takes_part few w e || is_whole_expression few w e))))
       && are_whole_arguments few w ps es
   are_whole_arguments few w ps es = false
 
@@ -123,8 +107,8 @@ abbrev mutual
   is_whole_form few w (call_form task args) =
       are_whole_arguments few w (param_types w.tree (task_named w.tree task)) args && are_free (task_named w.tree task) args
   is_whole_form few w (assign_form n no_step h e) = is_value few (bound w n).static_type && is_whole_expression few w e
-  is_whole_form few w (assign_form n (field_step f no_step) h y) = is_whole_expression few w y
-  is_whole_form few w (assign_form n (at_step e (field_step f no_step)) h y) = is_whole_expression few w e && is_whole_expression few w y
+  is_whole_form few w (assign_form n (field_step f rest) h y) = is_whole_expression few w y
+  is_whole_form few w (assign_form n (at_step e (field_step f rest)) h y) = is_whole_expression few w e && is_whole_expression few w y
   is_whole_form few w (return_form None) = true
   is_whole_form few w (return_form (Some e)) = is_whole_expression few w e
   is_whole_form few w form = false

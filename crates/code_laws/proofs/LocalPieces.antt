@@ -1,0 +1,193 @@
+-- Variables that begin as parts of partitions in a text with marked names, of which no breach is told, are typed.
+use Rattle.std.proofs.Common.{◌≡◌, ◌⊎◌, Bool, List, [], ◌∷◌, ◌++◌, None, Some, false, true, refl, ap, sym, subst, ℕ, ◌∙◌, inl, inr, not, ⊎_elim}
+use Rattle.std.specs.Prelude.{◌&&◌}
+use Rattle.std.specs.List.{Contains}
+use Rattle.std.proofs.lemmas.Bool.{and_parts, not-true}
+use Rattle.regent_tree.proofs.Members.{Contains-from_Has, Has, Has-append_left, Has-append_right}
+use Rattle.regent_tree.specs.Limits.{parts_of_expression}
+use Rattle.regent_tree.specs.Scopes.{Scope, bound_to, knowing, known_of_type, with_name}
+use Rattle.regent_tree.specs.Syntax.{Expression, Name, TaskTree, Tree, access_expr, at_step, call_expr, cast_expr, chain_expr, convert_expr, field_step, is_null_expr, no_step, null_expr, number_expr, plain_initializer, prefix_expr, space_expr, truth_expr, var_form}
+use Rattle.regent_tree.specs.Lookup.{is_bound}
+use Rattle.regent_tree.specs.Typing.{colour_of, is_disjoint, is_pointer, known_of_child, owned, parent_of, scope_after, type_of, type_of_element}
+use Rattle.regent_tree.specs.declared.facts.Known.TheVariants.{PartOf, Within}
+use Rattle.regent_tree.specs.declared.facts.Term.{Term}
+use Rattle.regent_tree.specs.declared.facts.Term.TheVariants as place
+use Rattle.regent_tree.specs.declared.typing.Bound.{Bound}
+use Rattle.regent_tree.specs.declared.typing.StaticType.{StaticType}
+use Rattle.regent_tree.specs.declared.typing.StaticType.TheVariants.{Region as region_type}
+use Rattle.check_laws.proofs.Variables.{parts_of_form as told_of_form}
+use Rattle.check_laws.specs.SoundScopes.{IsSoundScope}
+use Rattle.check_rules.specs.first.FirstInExpressions.{first_in_expression}
+use Rattle.check_rules.specs.first.FirstInStatements.{first_of_form}
+use Rattle.check_rules.specs.scopes.Sound.{IsSound, IsSoundTask}
+use Rattle.code_rules.specs.Slots.{Where}
+use Rattle.local_form.specs.LocalForm.{Marked, begins_part, is_among, is_local_expression, is_part, takes_part}
+use Rattle.scalar_form.specs.ScalarForm.{is_scalar_if_said}
+use Rattle.code_laws.specs.Above.{cut_told, first_told}
+use Rattle.code_laws.specs.Handing.{forms_by, takes_by, told_in}
+use Rattle.code_laws.specs.Simple.{IsPartition, IsRegion, a_partition_type}
+use Rattle.code_laws.specs.Steps.{Forms}
+use Rattle.code_laws.specs.Taking.{BeginsWithin}
+use Rattle.code_laws.specs.Typed.{IsKeepable, IsTyped}
+use Rattle.code_laws.proofs.Domains.{part_is}
+use Rattle.code_laws.proofs.KnownHeads.{IsPair, IsPiece, IsReady, KnowsFacts, above_by}
+use Rattle.code_laws.proofs.KnownPlaces.{head_piece}
+use Rattle.code_laws.proofs.LocalArguments.{IsArgument, IsPartName, IsRegionName}
+use Rattle.code_laws.proofs.LocalGoals.{bound_among}
+use Rattle.code_laws.proofs.LocalTaken.{IsOther, other_partition, other_pointer}
+use Rattle.code_laws.proofs.LocalTypes.{simple_other}
+use Rattle.code_laws.proofs.LocalValues.{value_other}
+use Rattle.code_laws.proofs.Values.{scalar_simple}
+use Rattle.code_laws.proofs.LocalNames.{IsKept, IsLocalTree, kept_partition, kept_region, kept_scalar, kept_value, named_kept, region_of_number}
+use Rattle.code_laws.proofs.LocalVariables.{VarTyped, at, parted}
+use Rattle.code_laws.proofs.Told.{ToldUpTo}
+use Rattle.code_laws.proofs.TypedStatements.{initial_told}
+use Rattle.code_laws.proofs.Typing.{AreKept, no_way, no_way_back}
+use Rattle.code_laws.proofs.Wider.{begun_apart}
+
+abbrev number_in : Term → ℕ
+number_in (place.Name i) = i
+number_in (place.Child p c) = 0
+
+abbrev cut_in : Term → ℕ
+cut_in (place.Name i) = 0
+cut_in (place.Child p c) = p
+
+abbrev IsChild : Term → Type 0
+IsChild (place.Name i) = ⊥
+IsChild (place.Child p c) = Unit {0}
+
+abbrev IsNoName : Expression → Type 0
+IsNoName (access_expr n no_step) = ⊥
+IsNoName e = Unit {0}
+
+-- what is taken of a name
+named_part : (m : Marked) (e : Expression) → takes_part m e ≡ true →
+    (p : Name) × (y : Expression) × (e ≡ access_expr p (at_step y no_step)) × (is_among m.partitions p ≡ true) × (is_among m.regions p ≡ false)
+named_part m (access_expr n (at_step e no_step)) h =
+    let both = and_parts (is_among m.partitions n) (not (is_among m.regions n)) h in (n, e, refl, both.0, not-true (is_among m.regions n) both.1)
+named_part m (access_expr n no_step) h = absurd (no_way_back h)
+named_part m (access_expr n (field_step f rest)) h = absurd (no_way_back h)
+named_part m (access_expr n (at_step e (field_step f rest))) h = absurd (no_way_back h)
+named_part m (access_expr n (at_step e (at_step f rest))) h = absurd (no_way_back h)
+named_part m (number_expr _ _) h = absurd (no_way_back h)
+named_part m (truth_expr _) h = absurd (no_way_back h)
+named_part m (chain_expr _ _) h = absurd (no_way_back h)
+named_part m (prefix_expr _ _) h = absurd (no_way_back h)
+named_part m (call_expr _ _) h = absurd (no_way_back h)
+named_part m (convert_expr _ _) h = absurd (no_way_back h)
+named_part m (is_null_expr _) h = absurd (no_way_back h)
+named_part m (null_expr _) h = absurd (no_way_back h)
+named_part m (cast_expr _ _) h = absurd (no_way_back h)
+named_part m (space_expr _ _) h = absurd (no_way_back h)
+
+module _ (handing keeping : Bool) (tree : Tree) (task : TaskTree) (sound : IsSound tree) (sound_task : IsSoundTask tree task) (m : Marked)
+    (local : IsLocalTree handing keeping m tree) (params : ℕ) (result : is_scalar_if_said task.result ≡ true) (keeps : (q : Name) → is_among m.partitions q ≡ true → keeping ≡ true) where
+  abbrev forms : Forms
+  forms = forms_by handing keeping tree task
+
+  abbrev Ready : Scope → Type 0
+  Ready s = IsReady keeping tree task m s
+
+  abbrev here : Scope → ℕ → Where
+  here s line = at handing keeping tree task sound sound_task m local params result s line
+
+  abbrev Starts : Scope → ℕ → Name → Expression → Type 0
+  Starts s line n y = VarTyped handing keeping tree task sound sound_task m local params result s line n None (Some (plain_initializer y))
+
+  -- the scope behind a variable that begins with an expression of a type
+  abbrev behind : Scope → Name → StaticType → Scope
+  behind s n t = knowing (with_name s n (owned s.next t) false) (known_of_child s.next t ++ known_of_type (owned s.next t))
+
+  -- where its facts are told, it began within the region of which the partition is
+  begins : (b : Bool) (s u : Scope) (p r : ℕ) (d : Bool) → KnowsFacts m tree task s → KnowsFacts m tree task u → ToldUpTo (told_in tree task) u →
+      first_told (cut_told s.next) u.known ≡ Some p → Contains u.known (PartOf p r d) → BeginsWithin (takes_by b tree task) s.next r
+  begins false s u p r d facts after up told cut = tt
+  begins true s u p r d facts after up told cut = (facts.next, above_by (told_in tree task) after up s.next p r d told cut)
+
+  -- the partition is that of the first fact
+  first_cut : (s u : Scope) (b : Term) (p : ℕ) → IsChild b → cut_in b ≡ p → IsPair tree task (place.Name s.next) b ⊎ IsPiece m task u (place.Name s.next) b →
+      first_told (cut_told s.next) u.known ≡ Some p
+  first_cut s u b p child same (inl a) = absurd (subst IsChild a.is_upper child)
+  first_cut s u b p child same (inr a) =
+      subst (λ i. first_told (cut_told i) u.known ≡ Some p) (sym (ap number_in a.is_lower))
+      (a.told ∙ ap (λ n. Some n) (sym (ap cut_in a.is_upper) ∙ same))
+
+  part_starts : (s : Scope) (line : ℕ) (n p : Name) (e : Expression) → is_among m.regions n ≡ true → m.parts ≡ true → (scope : IsSoundScope s) (ready : Ready s) →
+      ToldUpTo (told_in tree task) (scope_after tree s (var_form n None (Some (plain_initializer (access_expr p (at_step e no_step)))))) →
+      (a : IsPartName handing keeping task (here s line) sound sound_task m local scope ready.names ready.head (access_expr p (at_step e no_step))) →
+      Starts s line n (access_expr a.name (at_step a.index no_step))
+  part_starts s line n p e region marked scope ready up a =
+      let w = here s line in
+      let q = a.name in
+      let y = access_expr q (at_step a.index no_step) in
+      let b = bound_to s.names q in
+      let r = parent_of b.static_type in
+      let kind = part_is w q a.index a.own a.region in
+      let t = region_type kind.kind kind.space kind.args (place.Child b.number (colour_of s a.index)) in
+      let facts : KnowsFacts m tree task (behind s n t) =
+      head_piece tree task s n (region_type kind.kind kind.space kind.args (place.Name s.next)) b.number (colour_of s a.index) refl marked ready.head.facts in
+      let told = first_cut s (behind s n t) (place.Child b.number (colour_of s a.index)) b.number tt refl
+      (facts.within (place.Name s.next) (place.Child b.number (colour_of s a.index))
+      (Contains-from_Has _ _ (Has-append_right s.known (Within (place.Name s.next) (place.Child b.number (colour_of s a.index)) ∷ []) _ (inl refl)))) in
+      let cut : Has s.known (PartOf b.number r (is_disjoint b.static_type)) =
+      ready.head.facts.cuts b (bound_among s.names q a.cut.named) (PartOf b.number r (is_disjoint b.static_type))
+      (subst (λ u. Has (known_of_type u) (PartOf b.number r (is_disjoint b.static_type))) (sym a.own) (inl refl)) in
+      let up2 : ToldUpTo (told_in tree task) (behind s n t) =
+      subst (λ u. ToldUpTo (told_in tree task) (behind s n u)) kind.is
+      (subst (λ x. ToldUpTo (told_in tree task) (behind s n (type_of tree s x))) a.is up) in
+      let begun = begins handing s (behind s n t) b.number r (is_disjoint b.static_type) ready.head.facts facts up2 told
+      (Contains-from_Has _ _ (Has-append_left s.known _ (PartOf b.number r (is_disjoint b.static_type)) cut)) in
+      let parent = region_of_number s.next s.names r scope.numbers a.parent in (
+        begun_apart keeping w y (IsKeepable keeping w y × IsTyped forms w y) _ a.keeps (inr ((a.cut, a.own, a.region, (a.indexed, a.counts)), parent.1, begun)),
+        subst (λ u. IsKept keeping m s.names n s.next (owned s.next u)) (sym kind.is) (kept_region kind.kind kind.space kind.args region),
+        subst (λ u. KnowsFacts m tree task (behind s n u)) (sym kind.is) facts,
+      )
+
+  -- a name that isn't marked as a region's has none
+  no_region : (s : Scope) (p : Name) → Ready s → is_bound s.names p ≡ true → IsRegion (bound_to s.names p).static_type → is_among m.regions p ≡ false → ⊥
+  no_region s p ready there region none = by (bound_to s.names p).static_type (named_kept keeping m s.names p ready.names there) region
+    where
+      by : (t : StaticType) → IsKept keeping m s.names p (bound_to s.names p).number t → IsRegion t → ⊥
+      by t (kept_scalar _ a) r = simple_other t (scalar_simple t a) r
+      by t (kept_value _ a h q) r = value_other keeping s.names t a r
+      by _ (kept_region k sp args h) r = no_way (sym h ∙ none)
+      by _ (kept_partition d q a among h) r = elim r [ ]
+
+  no_name : (p n : Name) (e : Expression) → access_expr p (at_step e no_step) ≡ access_expr n no_step → ⊥
+  no_name p n e same = subst IsNoName same tt
+
+  -- what stands as a part is one
+  argument_starts : (s : Scope) (line : ℕ) (n p : Name) (e : Expression) → is_among m.regions n ≡ true → m.parts ≡ true → (scope : IsSoundScope s) (ready : Ready s) →
+      is_among m.partitions p ≡ true → is_among m.regions p ≡ false →
+      ToldUpTo (told_in tree task) (scope_after tree s (var_form n None (Some (plain_initializer (access_expr p (at_step e no_step)))))) →
+      IsArgument handing keeping task (here s line) sound sound_task m local scope ready.names ready.head (access_expr p (at_step e no_step)) →
+      Starts s line n (access_expr p (at_step e no_step))
+  argument_starts s line n p e region marked scope ready cut none up (inl a) = absurd (no_region s p ready a.is.3 a.is.4 none)
+  argument_starts s line n p e region marked scope ready cut none up (inr (inl r)) = absurd (no_name p r.name e r.is)
+  argument_starts s line n p e region marked scope ready cut none up (inr (inr (inl a))) =
+      subst (Starts s line n) (sym a.is) (part_starts s line n p e region marked scope ready up a)
+  argument_starts s line n p e region marked scope ready cut none up (inr (inr (inr other))) = by (type_of tree s (access_expr p (at_step e no_step))) refl other.0
+    where
+      by : (t : StaticType) → type_of tree s (access_expr p (at_step e no_step)) ≡ t → IsOther t → Starts s line n (access_expr p (at_step e no_step))
+      by _ same (other_partition d r q) = let c = other.2 (subst IsPartition (sym same) (a_partition_type d r q)) in absurd (no_name p c.name e c.is)
+      by _ same (other_pointer k sp args rs) =
+          let a = other.1 (keeps p cut) (ap is_pointer same) in absurd (no_region s p ready a.is.3 a.is.4 none)
+
+  -- `var n = p[e]`
+  pub piece_local : (s : Scope) (line : ℕ) (n : Name) (y : Expression) → begins_part m n y ≡ true → AreKept (parts_of_expression y) → IsSoundScope s → Ready s →
+      ToldUpTo (told_in tree task) (scope_after tree s (var_form n None (Some (plain_initializer y)))) →
+      first_of_form tree task s (var_form n None (Some (plain_initializer y))) ≡ None → Starts s line n y
+  piece_local s line n y lo k scope ready up none =
+      let one = and_parts (takes_part m y) (is_part m y && (is_among m.regions n && m.parts)) lo in
+      let two = and_parts (is_part m y) (is_among m.regions n && m.parts) one.1 in
+      let three = and_parts (is_among m.regions n) m.parts two.1 in
+      let is = named_part m y one.0 in
+      let told : first_in_expression tree task s y ≡ None =
+      subst (λ y. first_of_form tree task s (var_form n None (Some (plain_initializer y))) ≡ None → first_in_expression tree task s y ≡ None) (sym is.2)
+      (λ e. initial_told tree task s (access_expr is.0 (at_step is.1 no_step)) tt
+      (told_of_form tree task s sound scope (var_form n None (Some (plain_initializer (access_expr is.0 (at_step is.1 no_step))))) e).2) none in
+      subst (λ x. IsArgument handing keeping task (here s line) sound sound_task m local scope ready.names ready.head x →
+      ToldUpTo (told_in tree task) (scope_after tree s (var_form n None (Some (plain_initializer x)))) → Starts s line n x) (sym is.2)
+      (λ a up. argument_starts s line n is.0 is.1 three.0 three.1 scope ready is.3 is.4 up a)
+      (parted handing keeping tree task sound sound_task m local params result s line y two.0 k scope ready told) up
