@@ -4,7 +4,7 @@ use Rattle.std.proofs.Common.{◌≡◌, ◌++◌, ◌∷◌, ◌∙◌, ◌&&�
 use Rattle.std.proofs.lemmas.Bool.{and_from, and_parts, or_from, or_right}
 use Rattle.board_rules.specs.Ground.{Ground}
 use Rattle.board_rules.specs.Processes.{Map}
-use Rattle.board_rules.specs.Running.{After, Call, Element, Laws, Machine, Path, Yield, await, calls, ends, filled, make, no_call, stops, want}
+use Rattle.board_rules.specs.Running.{After, Call, Element, Laws, Machine, Path, Yield, await, calls, ends, filled, make, stops, want}
 use Rattle.board_rules.specs.Boards.{◌+++◌, Ending, all_ended, ending_with, Items, Kind, Operation, Stage, Stepped, Wait, all_issued, all_over, answer_of, as_child, at_fault, awaited, back, behind, by, child, claim, clear_of, close, closing, copied, copy, dropped, failed_at, failed_on, filling, first, give, given, given_by, has_failed, idle, in_op, is_ended, is_over, is_ready, is_waiting, issued, child_op, meets_any, met_by, needs_of, no_item, nothing, op, out, over, own_step, part, said, settle, stage_of, step_among, step_in, still_open, stop, stopped, sweep, unchanged, waits_for_failed, wants}
 use Rattle.board_laws.proofs.Reaching.{by_test}
 use Rattle.board_laws.proofs.Good.{Good, GoodItems}
@@ -176,7 +176,7 @@ module _ (G : Ground) (M : Machine G) (L : Laws G M) where
 
   issued_calm : (N : G.Needs) (xs : List (Call G)) → AllCalm (issued G M N xs)
   issued_calm N [] = tt
-  issued_calm N (x ∷ xs) = by_test (M.inside x.needs N) (λ b. AllCalm (cond b (child_op (op x.needs x.needs 0 x.frame [] (idle first) no_item) (issued G M N xs)) no_item))
+  issued_calm N (x ∷ xs) = by_test (x.may && M.inside x.needs N) (λ b. AllCalm (cond b (child_op (op x.needs x.needs 0 x.frame [] (idle first) no_item) (issued G M N xs)) no_item))
       (λ e. ((refl, tt), issued_calm N xs)) (λ e. tt)
 
   given_calm : (p : Path G) (D N : G.Needs) (i : ℕ) (is : Items G) (t : List G.Byte) (f : G.Frame) (ps : List (Element G)) (y : Yield G) → AllCalm is → Calm (settle G M (given G M p D N i is t f ps y).left)
@@ -191,7 +191,6 @@ module _ (G : Ground) (M : Machine G) (L : Laws G M) where
       (λ e. settle_calm D N i f [] (closing (at_fault G.broken)) (◌+++◌ G is (said t no_item)) tt (append_calm is _ h tt))
   given_calm p D N i is t f ps (ends v) h = settle_calm D N i f [] (closing (by v)) (◌+++◌ G is (said t no_item)) tt (append_calm is _ h tt)
   given_calm p D N i is t f ps (stops x) h = settle_calm D N i f [] (closing (at_fault x)) (◌+++◌ G is (said t no_item)) tt (append_calm is _ h tt)
-  given_calm p D N i is t f ps no_call h = settle_calm D N i f [] (closing (at_fault G.broken)) (◌+++◌ G is (said t no_item)) tt (append_calm is _ h tt)
 
   abbrev pub IfLeft : {A : Type 0} → Option (Stepped G A) → (A → Type 0) → Type 0
   IfLeft None P = Unit {0}

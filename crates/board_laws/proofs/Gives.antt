@@ -2,7 +2,7 @@
 use Rattle.std.proofs.Common.{◌≡◌, ◌++◌, ◌∷◌, ◌∙◌, ◌⊎◌, ◌&&◌, ◌<◌, Bool, List, None, Option, Some, [], ap, append-nil, arith, cond, false, inl, inr, length, refl, subst, suc, sym, true, ℕ}
 use Rattle.board_rules.specs.Ground.{Ground, Mode, reads, reduces, writes}
 use Rattle.board_rules.specs.Processes.{Apart, Effect, Inside, Map, Process, Result, after, and_then, bind, done, fails, faults, gives, mode_of, on_map, location_of, prefix, put, fold_in, run_all, says, spent}
-use Rattle.board_rules.specs.Running.{Call, Element, Held, Laws, Machine, MadeAt, Path, Spot, Yield, answer_at, await, back_with, calls, children, ends, filled, go_on, make, no_call, puts, reach, run_on, spots, stops, under, want}
+use Rattle.board_rules.specs.Running.{Call, Element, Held, Laws, Machine, MadeAt, Path, Spot, Yield, answer_at, await, back_with, calls, children, ends, filled, go_on, make, puts, reach, run_on, spots, stops, under, want}
 use Rattle.board_rules.specs.Boards.{◌+++◌, after_segment, Items, Operation, Stage, Stepped, Wait, all_issued, at_fault, awaited, by, child, closing, finish, finish_items, first, given, idle, is_over, issued, child_op, met_by, needs_of, no_item, nothing, op, out, part, remaining, said, stage_of}
 use Rattle.board_laws.proofs.Processes.{prefix_none, then_prefix, then_then}
 use Rattle.board_laws.proofs.Reaching.{by_test, held_append, under_self}
@@ -95,7 +95,7 @@ module _ (G : Ground) (M : Machine G) (L : Laws G M) where
       Below G (and_then G (children G M (run_on G M K) p N c xs o) k)
       (and_then G (finish_items G M (suc K) p c (issued G M N xs) o) (λ ws. cond (all_issued G M N xs) (j ws) (faults G G.broken)))
   children_below A K p N c [] k j h o = below_prefix G [] (k [] o) (j [] o) (h [] o)
-  children_below A K p N c (x ∷ xs) k j h o = by_test (M.inside x.needs N)
+  children_below A K p N c (x ∷ xs) k j h o = by_test (x.may && M.inside x.needs N)
       (λ b. Below G (and_then G (cond b whole_ones (faults G G.broken) o) k)
       (and_then G (finish_items G M (suc K) p c (cond b (child_op new (issued G M N xs)) no_item) o) (λ ws. cond (b && all_issued G M N xs) (j ws) (faults G G.broken))))
       (λ e. below_through G _ _ _ (below_same G _ _ whole_first)
@@ -190,7 +190,6 @@ module _ (G : Ground) (M : Machine G) (L : Laws G M) where
             (record { left = op D N i f [] (closing (at_fault G.broken)) (◌+++◌ G is (said t no_item)); effects = [] })
     by_yield t f ps (ends v) free = only_said t N i f [] (closing (by v)) (puts G M ps) _ free (λ vs o. inr refl)
     by_yield t f ps (stops x) free = only_said t N i f [] (closing (at_fault x)) [] _ tt (λ vs o. inr refl)
-    by_yield t f ps no_call free = only_said t N i f [] (closing (at_fault G.broken)) (puts G M ps) _ free (λ vs o. inr refl)
 
     -- what a claimed operation comes to, by the segment of its Before
     pub give_finishes : (f : G.Frame) (ps : List (Element G)) (w : Wait G) (d : List (Element G)) → GoodOp G M L m p D N i ps (out w d) is →

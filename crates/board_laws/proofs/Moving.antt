@@ -1,5 +1,6 @@
 -- What is good of the tree stays so while others change the map, and where children are issued.
 use Rattle.std.proofs.Common.{◌≡◌, ◌∷◌, ◌∙◌, ◌⊎◌, ◌&&◌, ◌<◌, List, None, Option, Some, [], ap, cond, inl, inr, not, refl, subst, suc, sym, true, true≢false, ℕ}
+use Rattle.std.proofs.lemmas.Bool.{and_parts}
 use Rattle.board_rules.specs.Ground.{Ground, Mode}
 use Rattle.board_rules.specs.Processes.{AllForeign, Effect, Footprint, Foreign, Inside, Map, mode_of, location_of, run, run_all}
 use Rattle.board_rules.specs.Running.{Call, Element, Held, Laws, Machine, Path, Spot, reach, spots, under}
@@ -96,7 +97,7 @@ module _ (G : Ground) (M : Machine G) (L : Laws G M) where
 
   pub issued_waiting : (N : G.Needs) (xs : List (Call G)) → AllWaiting (issued G M N xs)
   issued_waiting N [] = tt
-  issued_waiting N (x ∷ xs) = by_test (M.inside x.needs N) (λ b. AllWaiting (cond b (child_op (op x.needs x.needs 0 x.frame [] (idle first) no_item) (issued G M N xs)) no_item))
+  issued_waiting N (x ∷ xs) = by_test (x.may && M.inside x.needs N) (λ b. AllWaiting (cond b (child_op (op x.needs x.needs 0 x.frame [] (idle first) no_item) (issued G M N xs)) no_item))
       (λ e. (refl, issued_waiting N xs)) (λ e. tt)
 
   none_in : (a b : Option (Mode G.Op)) → Inside G a b → b ≡ None → a ≡ None
@@ -113,11 +114,11 @@ module _ (G : Ground) (M : Machine G) (L : Laws G M) where
 
   pub issued_good : (m : Map G) (p : Path G) (D N : G.Needs) (i : ℕ) (c : ℕ) (xs : List (Call G)) → Rooted G p D → OwnOf G p i D N → GoodItems G M L m p N c (issued G M N xs)
   issued_good m p D N i c [] r o = tt
-  issued_good m p D N i c (x ∷ xs) r o = by_test (M.inside x.needs N)
-      (λ b. M.inside x.needs N ≡ b → GoodItems G M L m p N c (cond b (child_op (op x.needs x.needs 0 x.frame [] (idle first) no_item) (issued G M N xs)) no_item))
+  issued_good m p D N i c (x ∷ xs) r o = by_test (x.may && M.inside x.needs N)
+      (λ b. (x.may && M.inside x.needs N) ≡ b → GoodItems G M L m p N c (cond b (child_op (op x.needs x.needs 0 x.frame [] (idle first) no_item) (issued G M N xs)) no_item))
       (λ e k. (
-        (record { rooted = issued_rooted p c i D N x.needs r o (L.is_inside x.needs N k); own = λ l. inl refl; held = tt; stage = tt; free = tt; free_claimed = tt }, tt),
-        L.is_inside x.needs N k,
+        (record { rooted = issued_rooted p c i D N x.needs r o (L.is_inside x.needs N (and_parts x.may (M.inside x.needs N) k).1); own = λ l. inl refl; held = tt; stage = tt; free = tt; free_claimed = tt }, tt),
+        L.is_inside x.needs N (and_parts x.may (M.inside x.needs N) k).1,
         waits_apart (op x.needs x.needs 0 x.frame [] (idle first) no_item) (issued G M N xs) (issued_waiting N xs),
         issued_good m p D N i (suc c) xs r o,
       )) (λ e k. tt) refl

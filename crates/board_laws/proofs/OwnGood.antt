@@ -3,7 +3,7 @@ use Rattle.std.proofs.Common.{is_some, ◌≡◌, ◌++◌, ◌∷◌, ◌∙◌
 use Rattle.std.proofs.lemmas.Bool.{and_parts}
 use Rattle.board_rules.specs.Ground.{Ground}
 use Rattle.board_rules.specs.Processes.{Apart, Effect, Map, run_all}
-use Rattle.board_rules.specs.Running.{Element, Held, Laws, Machine, Path, Spot, Yield, await, calls, ends, filled, make, no_call, puts, reach, spots, stops, want}
+use Rattle.board_rules.specs.Running.{Element, Held, Laws, Machine, Path, Spot, Yield, await, calls, ends, filled, make, puts, reach, spots, stops, want}
 use Rattle.board_rules.specs.Apart.{claimed_by}
 use Rattle.board_rules.specs.Boards.{◌+++◌, Kind, claim, copy, give, back, after_segment, own_step, unchanged, settle, clear_of, is_ended, is_ready, Items, Operation, Stage, Stepped, Wait, all_issued, answer_of, at_fault, awaited, by, child, closing, copied, dropped, filling, finish, first, given, idle, is_over, issued, child_op, met_by, needs_of, no_item, nothing, op, out, over, part, said, stage_of, wants}
 use Rattle.board_laws.proofs.Reaching.{AllOwned, Agree, apart_inside, filled_spots, zeros_owned, by_test, held_append, held_wider, inside_self, owned_puts}
@@ -214,11 +214,6 @@ module _ (G : Ground) (M : Machine G) (L : Laws G M) where
       good = node_good (puts G M ps) N i f [] (closing (by v)) (said t no_item) own same_needs tt tt (free_none G M L is) tt foreign tt tt;
     }
     given_good t f ps (stops x) held free foreign = record { same = refl; owned = tt; good = node_good [] N i f [] (closing (at_fault x)) (said t no_item) own same_needs tt tt (free_none G M L is) tt tt tt tt }
-    given_good t f ps no_call held free foreign = record {
-      same = refl;
-      owned = owned_puts G M L (reach G p D) ps (held_wider G (G.at N) (reach G p D) (spots G ps) (inside_own G M L p D N i own) held);
-      good = node_good (puts G M ps) N i f [] (closing (at_fault G.broken)) (said t no_item) own same_needs tt tt (free_none G M L is) tt foreign tt tt;
-    }
 
   settle_needs : (n : Operation G) → needs_of G (settle G M n) ≡ needs_of G n
   settle_needs (op D N i f ps st is) = refl

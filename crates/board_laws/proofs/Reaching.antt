@@ -1,9 +1,9 @@
 -- What an operation that runs on reaches: its needs, and all that is made at its place or below it.
-use Rattle.std.proofs.Common.{◌≡◌, ◌++◌, ◌∷◌, ◌∙◌, ◌||◌, Bool, List, None, Option, Some, [], ap, cond, eq-eqb, eqb-true, false, inl, inr, length, nat_eq, refl, subst, suc, sym, true, true≢false, zero, ℕ}
+use Rattle.std.proofs.Common.{◌&&◌, ◌≡◌, ◌++◌, ◌∷◌, ◌∙◌, ◌||◌, Bool, List, None, Option, Some, [], ap, cond, eq-eqb, eqb-true, false, inl, inr, length, nat_eq, refl, subst, suc, sym, true, true≢false, zero, ℕ}
 use Rattle.std.proofs.lemmas.Bool.{and_from, and_parts, or_left, or_right}
 use Rattle.board_rules.specs.Ground.{Ground, Sound, Mode, reads, reduces, writes}
 use Rattle.board_rules.specs.Processes.{Apart, Effect, Footprint, Foreign, Inside, Keeps, Map, Process, Quiet, Result, Together, Within, after, done, fails, fold_in, mode_of, location_of, put, run, run_all, spent}
-use Rattle.board_rules.specs.Running.{Call, Element, Held, Laws, Machine, MadeAt, Path, Rest, Spot, Yield, await, back_with, calls, children, ends, filled, go_on, make, no_call, number_of, puts, reach, run_on, same_path, spots, stops, under, want}
+use Rattle.board_rules.specs.Running.{Call, Element, Held, Laws, Machine, MadeAt, Path, Rest, Spot, Yield, await, back_with, calls, children, ends, filled, go_on, make, number_of, puts, reach, run_on, same_path, spots, stops, under, want}
 use Rattle.board_laws.proofs.Processes.{runs_swap, within_bind, within_faults, within_gives, within_says, within_spent}
 
 pub by_test : (b : Bool) (P : Bool → Type 0) → (b ≡ true → P true) → (b ≡ false → P false) → P b
@@ -204,8 +204,8 @@ module _ (G : Ground) (M : Machine G) (L : Laws G M) where
 
   within_children : (rest : Rest G M) → AllWithin rest → (p : Path G) (N : G.Needs) (c : ℕ) (xs : List (Call G)) → Within G (reach G p N) (children G M rest p N c xs)
   within_children rest w p N c [] = within_gives G _ []
-  within_children rest w p N c (x ∷ xs) = within_cond G _ (M.inside x.needs N) _ _
-      (λ e. within_bind G _ _ _ (within_wider G (reach G (c ∷ p) x.needs) _ _ (child_reach p c x.needs N (L.is_inside _ _ e)) (w (c ∷ p) x.needs 0 x.frame [] [] tt))
+  within_children rest w p N c (x ∷ xs) = within_cond G _ (x.may && M.inside x.needs N) _ _
+      (λ e. within_bind G _ _ _ (within_wider G (reach G (c ∷ p) x.needs) _ _ (child_reach p c x.needs N (L.is_inside _ _ (and_parts x.may (M.inside x.needs N) e).1)) (w (c ∷ p) x.needs 0 x.frame [] [] tt))
       (λ v. within_bind G _ _ _ (within_children rest w p N (suc c) xs) (λ vs. within_gives G _ (v ∷ vs))))
       (λ e. within_faults G _ G.broken)
 
@@ -225,8 +225,6 @@ module _ (G : Ground) (M : Machine G) (L : Laws G M) where
   within_go_on rest w p N i vs f ps (ends v) h =
       within_after G L.terms _ (puts G M ps) _ (owned_puts (reach G p N) ps (held_wider G _ _ _ (at_reach p N) h)) (within_gives G _ v)
   within_go_on rest w p N i vs f ps (stops x) h = within_faults G _ x
-  within_go_on rest w p N i vs f ps no_call h =
-      within_after G L.terms _ (puts G M ps) _ (owned_puts (reach G p N) ps (held_wider G _ _ _ (at_reach p N) h)) (within_faults G _ G.broken)
 
   pub run_within : (k : ℕ) → AllWithin (run_on G M k)
   run_within zero p N i f ps vs h = within_spent G _

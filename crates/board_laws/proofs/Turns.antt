@@ -1,8 +1,8 @@
 -- A run that has ended within its turns is the same with more turns.
-use Rattle.std.proofs.Common.{◌≡◌, ◌++◌, ◌∷◌, ◌∙◌, ◌⊎◌, Bool, List, [], ap, cond, false, inl, inr, length, refl, subst, suc, true, zero, ℕ}
+use Rattle.std.proofs.Common.{◌&&◌, ◌≡◌, ◌++◌, ◌∷◌, ◌∙◌, ◌⊎◌, Bool, List, [], ap, cond, false, inl, inr, length, refl, subst, suc, true, zero, ℕ}
 use Rattle.board_rules.specs.Ground.{Ground}
 use Rattle.board_rules.specs.Processes.{Map, Process, Result, and_then, bind, done, fails, prefix, run_all, spent}
-use Rattle.board_rules.specs.Running.{Call, Element, Machine, Path, Rest, Yield, await, calls, children, ends, go_on, make, no_call, puts, run_on, stops, want}
+use Rattle.board_rules.specs.Running.{Call, Element, Machine, Path, Rest, Yield, await, calls, children, ends, go_on, make, puts, run_on, stops, want}
 
 module _ (G : Ground) where
   -- the first result is the second, unless its turns were spent
@@ -49,7 +49,7 @@ module _ (G : Ground) (M : Machine G) where
 
   children_grow : (a b : Rest G M) → Grows a b → (p : Path G) (N : G.Needs) (c : ℕ) (xs : List (Call G)) → AllBelow G (children G M a p N c xs) (children G M b p N c xs)
   children_grow a b g p N c [] m = inr refl
-  children_grow a b g p N c (x ∷ xs) m = below_cond G (M.inside x.needs N) _ _ _ _
+  children_grow a b g p N c (x ∷ xs) m = below_cond G (x.may && M.inside x.needs N) _ _ _ _
       (below_bind G _ _ _ _ (g (c ∷ p) x.needs 0 x.frame [] []) (λ v. below_bind G _ _ _ _ (children_grow a b g p N (suc c) xs) (λ vs n. inr refl)))
       (λ n. inr refl) m
 
@@ -62,7 +62,6 @@ module _ (G : Ground) (M : Machine G) where
       (λ n. g p (M.grown p i d N) (suc i) (M.pushed p i d f) ps vs (run_all G (M.zeros p i d) n)) (λ n. inr refl) m
   go_on_grows a b g p N i vs f ps (ends v) m = inr refl
   go_on_grows a b g p N i vs f ps (stops x) m = inr refl
-  go_on_grows a b g p N i vs f ps no_call m = inr refl
 
   pub run_grows : (k : ℕ) → Grows (run_on G M k) (run_on G M (suc k))
   run_grows zero p N i f ps vs m = inl refl

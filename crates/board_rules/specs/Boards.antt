@@ -5,7 +5,7 @@
 use Rattle.std.specs.Prelude.{◌++◌, ◌∷◌, ◌||◌, ◌&&◌, Bool, List, None, Option, Some, [], cond, drop, false, is_some, not, suc, take, true, unwrap_or, zero, ℕ}
 use Rattle.board_rules.specs.Ground.{Ground}
 use Rattle.board_rules.specs.Processes.{Effect, Map, Process, bind, faults, gives, says}
-use Rattle.board_rules.specs.Running.{After, Call, Element, Machine, Path, Spot, Yield, answer_at, await, calls, ends, filled, make, no_call, puts, run_on, stops, want}
+use Rattle.board_rules.specs.Running.{After, Call, Element, Machine, Path, Spot, Yield, answer_at, await, calls, ends, filled, make, puts, run_on, stops, want}
 
 -- what an operation waits for: for its beginning, for nothing, for a part, for a child's answer
 pub data Wait (G : Ground) : Type 0 where
@@ -189,14 +189,14 @@ module _ (G : Ground) (M : Machine G) where
 
   -- ---- the steps
 
-  -- the children that are issued: those before the first whose needs aren't within the caller's
+  -- the children that are issued: those before the first that may not be made or whose needs aren't within the caller's
   abbrev pub issued : G.Needs → List (Call G) → Items G
   issued N [] = no_item
-  issued N (x ∷ xs) = cond (M.inside x.needs N) (child_op (op x.needs x.needs 0 x.frame [] (idle first) no_item) (issued N xs)) no_item
+  issued N (x ∷ xs) = cond (x.may && M.inside x.needs N) (child_op (op x.needs x.needs 0 x.frame [] (idle first) no_item) (issued N xs)) no_item
 
   abbrev pub all_issued : G.Needs → List (Call G) → Bool
   all_issued N [] = true
-  all_issued N (x ∷ xs) = M.inside x.needs N && all_issued N xs
+  all_issued N (x ∷ xs) = (x.may && M.inside x.needs N) && all_issued N xs
 
   abbrev pub met_by : Wait G → G.Frame → Option G.Answer → G.Frame
   met_by (child c) f a = M.met f c (unwrap_or a M.no_answer)
@@ -218,7 +218,6 @@ module _ (G : Ground) (M : Machine G) where
       (record { left = op D N i f [] (closing (at_fault G.broken)) (◌+++◌ G is (said t no_item)); effects = [] })
   given p D N i is t f ps (ends v) = record { left = op D N i f [] (closing (by v)) (◌+++◌ G is (said t no_item)); effects = puts G M ps }
   given p D N i is t f ps (stops x) = record { left = op D N i f [] (closing (at_fault x)) (◌+++◌ G is (said t no_item)); effects = [] }
-  given p D N i is t f ps no_call = record { left = op D N i f [] (closing (at_fault G.broken)) (◌+++◌ G is (said t no_item)); effects = puts G M ps }
 
   abbrev pub after_segment : Path G → G.Needs → G.Needs → ℕ → Items G → After G → Stepped G (Operation G)
   after_segment p D N i is a = given p D N i is a.text a.frame a.parts a.yields

@@ -1,9 +1,9 @@
 -- The order run with roots by numbers: the number of a new root is how many were made before it, in
 -- program order.
-use Rattle.std.specs.Prelude.{◌++◌, ◌+◌, ◌∷◌, List, [], cond, length, suc, zero, ℕ}
+use Rattle.std.specs.Prelude.{◌&&◌, ◌++◌, ◌+◌, ◌∷◌, List, [], cond, length, suc, zero, ℕ}
 use Rattle.board_rules.specs.Ground.{Ground}
 use Rattle.board_rules.specs.Processes.{Map, Result, done, fails, prefix, run_all, spent}
-use Rattle.board_rules.specs.Running.{Call, Element, Machine, Path, Yield, answer_at, await, calls, ends, filled, make, no_call, puts, stops, want}
+use Rattle.board_rules.specs.Running.{Call, Element, Machine, Path, Yield, answer_at, await, calls, ends, filled, make, puts, stops, want}
 use Rattle.board_rules.specs.Journals.{Job, Outcome, shown}
 
 -- a root that was made: the place of its maker, innermost first, and which of its roots it is
@@ -40,7 +40,7 @@ module _ (G : Ground) (M : ℕ → Machine G) where
 
   abbrev pub children_run : RestRun → Path G → G.Needs → ℕ → List (Call G) → Counting (List G.Answer)
   children_run rest p N c [] = just []
-  children_run rest p N c (x ∷ xs) = λ n m. cond ((M n).inside x.needs N)
+  children_run rest p N c (x ∷ xs) = λ n m. cond (x.may && (M n).inside x.needs N)
       (bind_run (rest (c ∷ p) x.needs 0 x.frame [] []) (λ v. bind_run (children_run rest p N (suc c) xs) (λ vs. just (v ∷ vs))) n m)
       (faulty G.broken n m)
 
@@ -56,7 +56,6 @@ module _ (G : Ground) (M : ℕ → Machine G) where
       (faulty G.broken n m)
   go_run rest p N i vs f ps (ends v) n m = record { made = []; result = done v [] (run_all G (puts G (M n) ps) m) }
   go_run rest p N i vs f ps (stops x) n m = faulty x n m
-  go_run rest p N i vs f ps no_call n m = faulty G.broken n (run_all G (puts G (M n) ps) m)
 
   abbrev pub says_run : List G.Byte → Run G G.Answer → Run G G.Answer
   says_run t r = record { made = r.made; result = prefix G t r.result }

@@ -3,7 +3,7 @@
 use Rattle.std.specs.Prelude.{◌≡◌, ◌∷◌, Bool, List, Option, [], ℕ}
 use Rattle.board_rules.specs.Ground.{Ground, Mode}
 use Rattle.board_rules.specs.Processes.{Effect, fold_in, put}
-use Rattle.board_rules.specs.Running.{After, Call, Element, Machine, Spot, Yield, await, calls, ends, make, no_call, stops, want}
+use Rattle.board_rules.specs.Running.{After, Call, Element, Machine, Spot, Yield, await, calls, ends, make, stops, want}
 use Rattle.board_rules.specs.Boards.{Ending, Items, Operation, Stage, Stepped, Wait, child, closing, dropped, filling, first, idle, child_op, no_item, nothing, op, out, over, part, said, step_in}
 
 -- what knows no root
@@ -80,7 +80,7 @@ module _ (B : Base) (X Y : Roots B) (R : Renames B X Y) where
 
   abbrev pub calls_to : List (Call (ground_over B X)) → List (Call (ground_over B Y))
   calls_to [] = []
-  calls_to (x ∷ xs) = record { needs = R.needs x.needs; frame = R.frame x.frame } ∷ calls_to xs
+  calls_to (x ∷ xs) = record { may = x.may; needs = R.needs x.needs; frame = R.frame x.frame } ∷ calls_to xs
 
   abbrev pub yield_to : Yield (ground_over B X) → Yield (ground_over B Y)
   yield_to (calls xs) = calls (calls_to xs)
@@ -89,7 +89,6 @@ module _ (B : Base) (X Y : Roots B) (R : Renames B X Y) where
   yield_to (make d) = make (R.made d)
   yield_to (ends v) = ends v
   yield_to (stops x) = stops x
-  yield_to no_call = no_call
 
   abbrev pub after_to : After (ground_over B X) → After (ground_over B Y)
   after_to a = record { text = a.text; frame = R.frame a.frame; parts = elements a.parts; yields = yield_to a.yields }

@@ -17,8 +17,9 @@ pub record Spot (G : Ground) : Type 0 where
   pub location : G.Location
   pub mode : Mode G.Op
 
--- a call: what the child needs, and its opening frame
+-- a call: whether it may be made at all, what the child needs, and its opening frame
 pub record Call (G : Ground) : Type 0 where
+  pub may : Bool
   pub needs : G.Needs
   pub frame : G.Frame
 
@@ -29,8 +30,6 @@ pub data Yield (G : Ground) : Type 0 where
   make : G.Made → Yield G
   ends : G.Answer → Yield G
   stops : G.Fault → Yield G
-  -- a call that can't be made: the parts go back, and the operation is broken
-  no_call : Yield G
 
 pub record After (G : Ground) : Type 0 where
   pub text : List G.Byte
@@ -141,7 +140,7 @@ module _ (G : Ground) (M : Machine G) where
   abbrev pub children : Rest → Path G → G.Needs → ℕ → List (Call G) → Process G (List G.Answer)
   children rest p N c [] = gives G []
   children rest p N c (x ∷ xs) =
-      cond (M.inside x.needs N)
+      cond (x.may && M.inside x.needs N)
       (bind G (rest (c ∷ p) x.needs 0 x.frame [] []) (λ v. bind G (children rest p N (suc c) xs) (λ vs. gives G (v ∷ vs))))
       (faults G G.broken)
 
@@ -155,7 +154,6 @@ module _ (G : Ground) (M : Machine G) where
       cond (M.sound d) (after G (M.zeros p i d) (rest p (M.grown p i d N) (suc i) (M.pushed p i d f) ps vs)) (faults G G.broken)
   go_on rest p N i vs f ps (ends v) = after G (puts ps) (gives G v)
   go_on rest p N i vs f ps (stops x) = faults G x
-  go_on rest p N i vs f ps no_call = after G (puts ps) (faults G G.broken)
 
   -- an operation runs on, for at most so many segments one within or behind another
   abbrev pub run_on : ℕ → Rest

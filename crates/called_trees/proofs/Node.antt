@@ -31,7 +31,7 @@ use Rattle.regent_boards.specs.RegentMachine.{regent_ground}
 use Rattle.segment_renaming.specs.Renaming.{value_to, yield_to}
 use Rattle.segment_regions.proofs.Frames.{segments_keep_frames}
 use Rattle.code_boards.specs.Laws.{machine_of}
-use Rattle.code_boards.specs.Views.{and_all, called_with, calls_out, opening_with, spaces_of, value_out, yield_out}
+use Rattle.code_boards.specs.Views.{called_with, opened_with, opening_with, refused, spaces_of, value_out, yield_out}
 use Rattle.order_boards.proofs.Calls.{as_many_values, values}
 use Rattle.board_terms.specs.declared.claim.Claim.{Claim}
 use Rattle.board_terms.specs.declared.operation.Activity.{Activity}
@@ -181,7 +181,7 @@ module _ (job : Job) (s : State) (b : Board (regent_ground (spaces_of job.code))
 
   -- ---- what is yielded
 
-  yields_are : m.yields ≡ calls_out job.code (and_all job.code (called_with job.code job.turns met.depth c.task arguments (slice_get job.code.tasks c.task)) (Some []))
+  yields_are : m.yields ≡ called_by_tree (called_with job.code job.turns met.depth c.task arguments (slice_get job.code.tasks c.task) ∷ [])
   yields_are = left.yields name naming ∙ ap (λ y. yield_out job.code job.turns met (yield_to (named name) y)) calls
 
   module _ (t : TaskCode) where
@@ -208,14 +208,14 @@ module _ (job : Job) (s : State) (b : Board (regent_ground (spaces_of job.code))
     inside = within_same job s.tree live s.roots h.who makings h.made now held roots under there c.args placed name naming (same name naming) t.needs N o.frame.needs.items (seen.required name naming)
 
     -- in the tree
-    tree_calls : called_with job.code job.turns met.depth c.task arguments (Some t) ≡ cond (fits && declared) (Some call) None
+    tree_calls : called_with job.code job.turns met.depth c.task arguments (Some t) ≡ cond (fits && declared) call (refused job.code)
     tree_calls =
         (λ j. cond (nat_le (as_many_values job.code name c.args j) t.slots)
-        (option_map (opening_with job.code job.turns (depth_is j) c.task t.slots arguments)
-        (all_required job s.tree live s.roots h.who makings h.made now held roots under there c.args placed name naming (same name naming) t.needs j)) None)
+        (opened_with job.code job.turns (depth_is j) c.task t.slots arguments
+        (all_required job s.tree live s.roots h.who makings h.made now held roots under there c.args placed name naming (same name naming) t.needs j)) (refused job.code))
         ∙ by_both fits declared
       where
-        by_both : (x y : Bool) → cond x (option_map (opening_with job.code job.turns g.depth c.task t.slots arguments) (cond y (Some needs) None)) None ≡ cond (x && y) (Some call) None
+        by_both : (x y : Bool) → cond x (opened_with job.code job.turns g.depth c.task t.slots arguments (cond y (Some needs) None)) (refused job.code) ≡ cond (x && y) call (refused job.code)
         by_both true true = refl
         by_both true false = refl
         by_both false y = refl
@@ -257,19 +257,19 @@ module _ (job : Job) (s : State) (b : Board (regent_ground (spaces_of job.code))
     effects = puts G M m.parts;
   }
 
-  by_call : (t : TaskCode) (x y z : Bool) → covered t ≡ z → given_by (calls_out job.code (and_all job.code (cond (x && y) (Some (call t)) None) (Some []))) ≡ cond (x && (y && z)) (with_child t) without_child
+  by_call : (t : TaskCode) (x y z : Bool) → covered t ≡ z → given_by (called_by_tree (cond (x && y) (call t) (refused job.code) ∷ [])) ≡ cond (x && (y && z)) (with_child t) without_child
   by_call t true true z e = by_inside t z (inside t ∙ e)
   by_call t true false z e = refl
   by_call t false y z e = refl
 
   task_behind : (t : TaskCode) → slice_get job.code.tasks c.task ≡ Some t → behind ≡ cond (fits t && (declared t && covered t)) (with_child t) without_child
   task_behind t found =
-      ap given_by (yields_are ∙ ap (λ q. calls_out job.code (and_all job.code (called_with job.code job.turns met.depth c.task arguments q) (Some []))) found
-      ∙ ap (λ q. calls_out job.code (and_all job.code q (Some []))) (tree_calls t))
+      ap given_by (yields_are ∙ ap (λ q. called_by_tree (called_with job.code job.turns met.depth c.task arguments q ∷ [])) found
+      ∙ ap (λ q. called_by_tree (q ∷ [])) (tree_calls t))
       ∙ by_call t (fits t) (declared t) (covered t) refl
 
   no_task_behind : slice_get job.code.tasks c.task ≡ None → behind ≡ without_child
-  no_task_behind found = ap given_by (yields_are ∙ ap (λ q. calls_out job.code (and_all job.code (called_with job.code job.turns met.depth c.task arguments q) (Some []))) found)
+  no_task_behind found = ap given_by (yields_are ∙ ap (λ q. called_by_tree (called_with job.code job.turns met.depth c.task arguments q ∷ [])) found)
 
   -- where the table issues the call, so does the tree
   pub record Issues (x : Frame) : Type 0 where

@@ -1,5 +1,5 @@
 -- The run in order over the code ends within a number of segments that the code and the turns tell.
-use Rattle.std.proofs.Common.{◌≡◌, ℕ, zero, suc, ◌+◌, ◌*◌, ◌≤◌, ℤ, pos, List, [], ◌∷◌, ◌++◌, Bool, true, false, cond, Option, Some, None, refl, sym, ap, ◌∙◌, arith, map, option_map, eq-eqb}
+use Rattle.std.proofs.Common.{◌≡◌, ◌&&◌, ℕ, zero, suc, ◌+◌, ◌*◌, ◌≤◌, ℤ, pos, List, [], ◌∷◌, ◌++◌, Bool, true, false, cond, Option, Some, None, refl, sym, ap, ◌∙◌, arith, map, option_map, eq-eqb}
 use Rattle.std.specs.Prelude.{length, nat_lt, nat_le, slice_get}
 use Rattle.std.proofs.Math.Nat.{suc-mul}
 use Rattle.std.proofs.lemmas.Bool.{ltb-true}
@@ -25,13 +25,13 @@ use Rattle.machine_terms.specs.Segments.{frame_after, stop_of}
 use Rattle.board_rules.specs.Ground.{Ground}
 use Rattle.board_rules.specs.Processes.{Map, Result, done, fails, prefix, spent}
 use Rattle.board_rules.specs.NumberedRuns.{Counting, Making, Run, bind_run, children_run, go_run, go_then, just, numbered_run}
-use Rattle.board_rules.specs.Running.{Call, Element, Machine as BoardMachine, answer_at, filled, make}
+use Rattle.board_rules.specs.Running.{Call, Element, Machine as BoardMachine, answer_at, calls, filled, make}
 use Rattle.regent_boards.specs.Laws as laws
 use Rattle.regent_boards.specs.RegentMachine.{fields_of, grown_by, met_frame, met_value, needs_of_root, pushed_on, regent_ground, root_of}
 use Rattle.region_tree.specs.declared.needs.Needs.{Needs}
 use Rattle.machine_terms.specs.Parts.{is_needed}
 use Rattle.regent_boards.specs.Frames as board
-use Rattle.code_boards.specs.Views.{and_all, board_segment, called, called_all, called_with, calls_out, frame_in, frame_out, last_frame, made_out, needs_in, numbers_in_parts, opening_with, parts_in, spaces_of, region_in, region_out, required_all, value_in, value_out, with_numbers, yield_out, before_in}
+use Rattle.code_boards.specs.Views.{board_segment, called, called_with, frame_in, frame_out, last_frame, made_out, needs_in, numbers_in_parts, opened_with, parts_in, refused, spaces_of, region_in, region_out, required_all, value_in, value_out, with_numbers, yield_out, before_in}
 use Rattle.machine_terms.proofs.StepKinds.{Fixed, key_of, slot_of, pointer_key, region_key, aimed_key, still}
 use Rattle.machine_terms.proofs.Kept.{stop_fixed}
 use Rattle.order_laws.proofs.Waits.{AfterStop, Answers, AsksAlike, Passed, Within, twice}
@@ -173,39 +173,30 @@ module _ (code : Code) (turns : ℕ) where
     has_turns : x.frame.turns ≡ turns
     deeper : x.frame.depth ≡ suc depth
 
+  -- where it may be made
+  abbrev IfMade : ℕ → Call G → Type 0
+  IfMade depth x = x.may ≡ true → Good depth x
+
   abbrev AllGood : ℕ → List (Call G) → Type 0
   AllGood depth [] = Unit {0}
-  AllGood depth (x ∷ xs) = Good depth x × AllGood depth xs
+  AllGood depth (x ∷ xs) = IfMade depth x × AllGood depth xs
 
-  abbrev OneGood : ℕ → Option (Call G) → Type 0
-  OneGood depth None = Unit {0}
-  OneGood depth (Some x) = Good depth x
-
-  abbrev EachGood : ℕ → Option (List (Call G)) → Type 0
-  EachGood depth None = Unit {0}
-  EachGood depth (Some xs) = AllGood depth xs
-
-  called_good : (depth : ℕ) (c : CallOut) → OneGood depth (called code turns depth c)
+  called_good : (depth : ℕ) (c : CallOut) → IfMade depth (called code turns depth c)
   called_good depth c = by_task (slice_get code.tasks c.task) refl
     where
       by_needs : (t : TaskCode) → slice_get code.tasks c.task ≡ Some t → (b : Bool) (q : Option (List Requirement)) →
-          OneGood depth (cond b (option_map (opening_with code turns depth c.task t.slots (map value_out c.args)) q) None)
-      by_needs t e true (Some q) = record { task = t; found = e; needs = refl; has_turns = refl; deeper = refl }
-      by_needs t e true None = tt
-      by_needs t e false q = tt
+          IfMade depth (cond b (opened_with code turns depth c.task t.slots (map value_out c.args) q) (refused code))
+      by_needs t e true (Some q) made = record { task = t; found = e; needs = refl; has_turns = refl; deeper = refl }
+      by_needs t e true None made = absurd cc
+      by_needs t e false q made = absurd cc
 
-      by_task : (o : Option TaskCode) → slice_get code.tasks c.task ≡ o → OneGood depth (called_with code turns depth c.task (map value_out c.args) o)
-      by_task None e = tt
+      by_task : (o : Option TaskCode) → slice_get code.tasks c.task ≡ o → IfMade depth (called_with code turns depth c.task (map value_out c.args) o)
+      by_task None e = λ made. absurd cc
       by_task (Some t) e = by_needs t e (nat_le (length (map value_out c.args)) t.slots) (required_all code t.needs (map value_out c.args))
 
-  both_good : (depth : ℕ) (a : Option (Call G)) (b : Option (List (Call G))) → OneGood depth a → EachGood depth b → EachGood depth (and_all code a b)
-  both_good depth (Some a) (Some b) h g = (h, g)
-  both_good depth (Some a) None h g = tt
-  both_good depth None b h g = tt
-
-  all_good : (depth : ℕ) (cs : List CallOut) → EachGood depth (called_all code turns depth cs)
+  all_good : (depth : ℕ) (cs : List CallOut) → AllGood depth (map (called code turns depth) cs)
   all_good depth [] = tt
-  all_good depth (c ∷ cs) = both_good depth (called code turns depth c) (called_all code turns depth cs) (called_good depth c) (all_good depth cs)
+  all_good depth (c ∷ cs) = (called_good depth c, all_good depth cs)
 
   -- ---- the number of segments
 
@@ -254,12 +245,17 @@ module _ (code : Code) (turns : ℕ) where
             (omega (arith, l, h.deeper))
             (ends_soon code h.task.body turns (here x.frame []) h.has_turns)
 
+    made_only : (b t : Bool) (r q : Run G (List board.Answer)) → (b ≡ true → r.result ≡ spent → ⊥) → (q.result ≡ spent → ⊥) →
+        (cond (b && t) r q).result ≡ spent → ⊥
+    made_only true t r q h g = cond_done t r q (h refl) g
+    made_only false t r q h g = g
+
     children_done : (xs : List (Call G)) → AllGood f.depth xs → nat_lt f.depth 64 ≡ true → (b d : ℕ) (u : Map G) →
         (children_run G M (numbered_run G M k) p N b xs d u).result ≡ spent → ⊥
     children_done [] h shallow b d u = λ e. absurd cc
-    children_done (x ∷ xs) h shallow b d u = cond_done ((M d).inside x.needs N) _ _
-        (bind_done (numbered_run G M k (b ∷ p) x.needs 0 x.frame [] []) (λ v. bind_run G M (children_run G M (numbered_run G M k) p N (suc b) xs) (λ vs. just G M (v ∷ vs))) d u
-        (child_done x h.0 shallow (b ∷ p) d u)
+    children_done (x ∷ xs) h shallow b d u = made_only x.may ((M d).inside x.needs N) _ _
+        (λ made. bind_done (numbered_run G M k (b ∷ p) x.needs 0 x.frame [] []) (λ v. bind_run G M (children_run G M (numbered_run G M k) p N (suc b) xs) (λ vs. just G M (v ∷ vs))) d u
+        (child_done x (h.0 made) shallow (b ∷ p) d u)
         (λ v d u. bind_done (children_run G M (numbered_run G M k) p N (suc b) xs) (λ vs. just G M (v ∷ vs)) d u
         (children_done xs h.1 shallow (suc b) d u) (λ vs d u e. absurd cc)))
         (λ e. absurd cc)
@@ -276,11 +272,10 @@ module _ (code : Code) (turns : ℕ) where
           (numbered_run G M k p N i g q ws d u).result ≡ spent → ⊥
       on q ws d u w = more e n t p N i g q ws d u found needs (omega (arith, room)) (omega (arith, deep, fx.depth)) w
 
-      calls_done : (o : Option (List (Call G))) (q : List (Element G)) → EachGood f.depth o → nat_lt f.depth 64 ≡ true →
+      calls_done : (xs : List (Call G)) (q : List (Element G)) → AllGood f.depth xs → nat_lt f.depth 64 ≡ true →
           ((y : Machine) → Passed x.frame y.frame → Within code t.body n y) →
-          (go_run G M (numbered_run G M k) p N i vs g q (calls_out code o) c m).result ≡ spent → ⊥
-      calls_done None q h shallow w = λ e. absurd cc
-      calls_done (Some xs) q h shallow w = bind_done (children_run G M (numbered_run G M k) p N (length vs) xs)
+          (go_run G M (numbered_run G M k) p N i vs g q (calls xs) c m).result ≡ spent → ⊥
+      calls_done xs q h shallow w = bind_done (children_run G M (numbered_run G M k) p N (length vs) xs)
           (λ ws. numbered_run G M k p N i g [] (vs ++ ws)) c _
           (children_done xs h shallow (length vs) c _)
           (λ ws d u. on [] (vs ++ ws) d u (w (here g []) passed))
@@ -306,7 +301,7 @@ module _ (code : Code) (turns : ℕ) where
 
       by_yield : (y : Yield) (q : List (Element G)) → IsAsked y x → AfterStop (Within code t.body n) y x →
           (go_run G M (numbered_run G M k) p N i vs (last_frame f (frame_after y x.frame)) q (yield_out code turns f y) c m).result ≡ spent → ⊥
-      by_yield (yield.Calls cs) q wanted w = calls_done (called_all code turns f.depth cs) q (all_good f.depth cs)
+      by_yield (yield.Calls cs) q wanted w = calls_done (map (called code turns f.depth) cs) q (all_good f.depth cs)
           (ap (λ d. nat_lt d 64) (sym fx.depth) ∙ w.0) w.1
       by_yield (yield.Want r h) q wanted w =
           let more_parts = q ++ filled G (M c) ((M c).wanted N (record { root = r.0; field = h })) m in

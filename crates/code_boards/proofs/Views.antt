@@ -21,7 +21,7 @@ use Rattle.machine_terms.specs.declared.value.Value.{Value}
 use Rattle.machine_terms.specs.declared.value.Value.TheVariants as value
 use Rattle.machine_terms.specs.Parts.{is_part_of}
 use Rattle.machine_terms.specs.Segments.{segment}
-use Rattle.board_rules.specs.Running.{Call, Element, Yield as BoardYield, ends, make, spots}
+use Rattle.board_rules.specs.Running.{Call, Element, Yield as BoardYield, ends, make, spots, calls}
 use Rattle.board_rules.specs.Renaming.{after_to as board_after_to, calls_to, elements, yield_to as board_yield_to}
 use Rattle.regent_boards.specs.Laws as laws
 use Rattle.regent_boards.specs.RegentMachine.{base, kinds_of, regent_ground, regent_roots}
@@ -29,7 +29,7 @@ use Rattle.regent_boards.specs.RootRenaming.{IsOneToOne as OneToOne, region_to a
 use Rattle.regent_boards.specs.Frames as board
 use Rattle.regent_boards.proofs.RootRenaming.{kind_to, own_roots_to, space_to, to_one}
 use Rattle.segment_renaming.specs.Renaming.{Names, IsOneToOne, after_to, before_to, call_to, frame_to, made_to, need_to, part_to, region_to, root_to, value_to, yield_to}
-use Rattle.code_boards.specs.Views.{after_out, and_all, before_in, board_segment, called, called_all, called_with, calls_out, frame_in, frame_out, last_frame, made_out, need_in, needs_in, numbers_in_parts, onto_parts, opening_with, part_with, parts_in, piece_with, mode_in, onto_pieces, spaces_of, region_in, region_out, required, required_all, root_in, value_in, value_out, with_numbers, yield_out}
+use Rattle.code_boards.specs.Views.{after_out, and_all, before_in, board_segment, called, called_with, frame_in, frame_out, last_frame, made_out, need_in, needs_in, numbers_in_parts, onto_parts, opened_with, opening_with, part_with, parts_in, piece_with, mode_in, onto_pieces, spaces_of, refused, region_in, region_out, required, required_all, root_in, value_in, value_out, with_numbers, yield_out}
 use Rattle.segment_renaming.proofs.Alike.{same_root}
 use Rattle.segment_renaming.proofs.Segments.{segment_same}
 
@@ -136,7 +136,7 @@ module _ (code : Code) (name : ℕ → ℕ) (one : OneToOne name) where
     own = map (board_root_to name) g.own;
     makings = g.makings;
     children = f.children;
-    later = g.later;
+    later = f.later;
   }
 
   made_out_to : (d : Made) → made_out (made_to names d) ≡ renamed_made name (made_out d)
@@ -201,7 +201,7 @@ module _ (code : Code) (name : ℕ → ℕ) (one : OneToOne name) where
   -- ---- calls
 
   abbrev renamed_call : Call (regent_ground (spaces_of code)) → Call (regent_ground (spaces_of code))
-  renamed_call x = record { needs = map (requirement_to name) x.needs; frame = renamed_frame name x.frame }
+  renamed_call x = record { may = x.may; needs = map (requirement_to name) x.needs; frame = renamed_frame name x.frame }
 
   abbrev renamed_calls : List (Call (regent_ground (spaces_of code))) → List (Call (regent_ground (spaces_of code)))
   renamed_calls = calls_to base (regent_roots (spaces_of code)) (regent_roots (spaces_of code)) (renaming name (spaces_of code))
@@ -263,6 +263,7 @@ module _ (code : Code) (name : ℕ → ℕ) (one : OneToOne name) where
       opening_with code turns depth task slots (map (renamed_value name) vs) (map (requirement_to name) needs)
       ≡ renamed_call (opening_with code turns depth task slots vs needs)
   opening_to turns depth task slots vs needs = λ i. record {
+    may = true;
     needs = map (requirement_to name) needs;
     frame = record {
       task = task;
@@ -280,56 +281,44 @@ module _ (code : Code) (name : ℕ → ℕ) (one : OneToOne name) where
   }
 
   openings_to : (turns depth task slots : ℕ) (vs : List board.Value) (o : Option (List Requirement)) →
-      option_map (opening_with code turns depth task slots (map (renamed_value name) vs)) (option_map (map (requirement_to name)) o)
-      ≡ option_map renamed_call (option_map (opening_with code turns depth task slots vs) o)
+      opened_with code turns depth task slots (map (renamed_value name) vs) (option_map (map (requirement_to name)) o)
+      ≡ renamed_call (opened_with code turns depth task slots vs o)
   openings_to turns depth task slots vs None = refl
-  openings_to turns depth task slots vs (Some needs) = ap (λ c. Some c) (opening_to turns depth task slots vs needs)
+  openings_to turns depth task slots vs (Some needs) = opening_to turns depth task slots vs needs
 
   called_with_to : (turns depth task : ℕ) (vs : List board.Value) (o : Option TaskCode) →
-      called_with code turns depth task (map (renamed_value name) vs) o ≡ option_map renamed_call (called_with code turns depth task vs o)
+      called_with code turns depth task (map (renamed_value name) vs) o ≡ renamed_call (called_with code turns depth task vs o)
   called_with_to turns depth task vs None = refl
   called_with_to turns depth task vs (Some t) =
       (λ i. cond (nat_le (length-map vs (renamed_value name) i) t.slots)
-      ((ap (option_map (opening_with code turns depth task t.slots (map (renamed_value name) vs))) (required_all_to t.needs vs)
-      ∙ openings_to turns depth task t.slots vs (required_all code t.needs vs)) i) None)
-      ∙ choice (nat_le (length vs) t.slots) (option_map (opening_with code turns depth task t.slots vs) (required_all code t.needs vs))
+      ((ap (opened_with code turns depth task t.slots (map (renamed_value name) vs)) (required_all_to t.needs vs)
+      ∙ openings_to turns depth task t.slots vs (required_all code t.needs vs)) i) (refused code))
+      ∙ choice (nat_le (length vs) t.slots) (opened_with code turns depth task t.slots vs (required_all code t.needs vs))
     where
-      choice : (b : Bool) (o : Option (Call (regent_ground (spaces_of code)))) →
-          cond b (option_map renamed_call o) None ≡ option_map renamed_call (cond b o None)
-      choice true o = refl
-      choice false o = refl
+      choice : (b : Bool) (x : Call (regent_ground (spaces_of code))) →
+          cond b (renamed_call x) (refused code) ≡ renamed_call (cond b x (refused code))
+      choice true x = refl
+      choice false x = refl
 
   called_to : (turns depth : ℕ) (c : CallOut) →
-      called code turns depth (call_to names c) ≡ option_map renamed_call (called code turns depth c)
+      called code turns depth (call_to names c) ≡ renamed_call (called code turns depth c)
   called_to turns depth c =
       ap (λ vs. called_with code turns depth c.task vs (slice_get code.tasks c.task)) (values_out_to c.args)
       ∙ called_with_to turns depth c.task (map value_out c.args) (slice_get code.tasks c.task)
 
-  every_to : (a : Option (Call (regent_ground (spaces_of code)))) (b : Option (List (Call (regent_ground (spaces_of code))))) →
-      and_all code (option_map renamed_call a) (option_map renamed_calls b) ≡ option_map renamed_calls (and_all code a b)
-  every_to (Some a) (Some b) = refl
-  every_to (Some a) None = refl
-  every_to None b = refl
-
   called_all_to : (turns depth : ℕ) (cs : List CallOut) →
-      called_all code turns depth (map (call_to names) cs) ≡ option_map renamed_calls (called_all code turns depth cs)
+      map (called code turns depth) (map (call_to names) cs) ≡ renamed_calls (map (called code turns depth) cs)
   called_all_to turns depth [] = refl
-  called_all_to turns depth (c ∷ cs) = (λ i. and_all code (called_to turns depth c i) (called_all_to turns depth cs i))
-      ∙ every_to (called code turns depth c) (called_all code turns depth cs)
+  called_all_to turns depth (c ∷ cs) = λ i. called_to turns depth c i ∷ called_all_to turns depth cs i
 
   -- ---- what a segment gives
 
   abbrev renamed_yield : BoardYield (regent_ground (spaces_of code)) → BoardYield (regent_ground (spaces_of code))
   renamed_yield = board_yield_to base (regent_roots (spaces_of code)) (regent_roots (spaces_of code)) (renaming name (spaces_of code))
 
-  calls_out_to : (o : Option (List (Call (regent_ground (spaces_of code))))) →
-      calls_out code (option_map renamed_calls o) ≡ renamed_yield (calls_out code o)
-  calls_out_to None = refl
-  calls_out_to (Some cs) = refl
-
   yield_out_to : (turns : ℕ) (f : board.Frame) (y : Yield) →
       yield_out code turns (renamed_frame name f) (yield_to names y) ≡ renamed_yield (yield_out code turns f y)
-  yield_out_to turns f (yield.Calls cs) = ap (calls_out code) (called_all_to turns f.depth cs) ∙ calls_out_to (called_all code turns f.depth cs)
+  yield_out_to turns f (yield.Calls cs) = ap (λ xs. calls xs) (called_all_to turns f.depth cs)
   yield_out_to turns f (yield.Want r k) = refl
   yield_out_to turns f (yield.Await i) = refl
   yield_out_to turns f (yield.Make d) = ap (λ x. make x) (made_out_to d)

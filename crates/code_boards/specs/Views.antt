@@ -1,6 +1,6 @@
 -- The board's view of frames, parts and what a segment gives: a root is a number that tells its field
 -- space and its size, a region has no node, and parts are lists of elements.
-use Rattle.std.specs.Prelude.{ℕ, suc, ℤ, pos, List, [], ◌∷◌, ◌++◌, cond, Option, Some, None, get_or, slice_get, replicate, length, map, option_map, nat_lt, nat_le, ◌-◌}
+use Rattle.std.specs.Prelude.{ℕ, suc, ℤ, pos, List, [], ◌∷◌, ◌++◌, cond, Option, Some, None, get_or, slice_get, replicate, length, map, nat_lt, nat_le, ◌-◌, true, false}
 use Rattle.lane_kernels.specs.declared.numbers.Mode.{Mode as FieldMode}
 use Rattle.lane_kernels.specs.declared.numbers.Mode.TheVariants.{Read, Reduce, Write}
 use Rattle.region_tree.specs.declared.needs.Need.{Need}
@@ -27,7 +27,7 @@ use Rattle.machine_terms.specs.declared.value.Value.TheVariants as value
 use Rattle.machine_terms.specs.Parts.{is_part_of}
 use Rattle.machine_terms.specs.Segments.{segment}
 use Rattle.board_rules.specs.Ground.{Mode, reads, reduces, writes}
-use Rattle.board_rules.specs.Running.{After as BoardAfter, Call, Element, Yield as BoardYield, await, calls, ends, make, no_call, stops, want}
+use Rattle.board_rules.specs.Running.{After as BoardAfter, Call, Element, Yield as BoardYield, await, calls, ends, make, stops, want}
 use Rattle.regent_boards.specs.RegentMachine.{answer_with, kind_of, kinds_of, regent_ground}
 use Rattle.regent_boards.specs.Frames.{Spaces}
 use Rattle.regent_boards.specs.Frames as board
@@ -106,7 +106,7 @@ frame_out g f = record {
   own = g.own;
   makings = g.makings;
   children = f.children;
-  later = g.later;
+  later = f.later;
 }
 
 -- an instance that ended has the frame from which it ran; nothing looks at it
@@ -188,6 +188,7 @@ module _ (code : Code) where
   abbrev pub opening_with :
       ℕ → ℕ → ℕ → ℕ → List board.Value → List Requirement → Call (regent_ground (spaces_of code))
   opening_with turns depth task slots vs needs = record {
+    may = true;
     needs = needs;
     frame = record {
       task = task;
@@ -204,29 +205,30 @@ module _ (code : Code) where
     };
   }
 
-  abbrev pub called_with :
-      ℕ → ℕ → ℕ → List board.Value → Option TaskCode → Option (Call (regent_ground (spaces_of code)))
-  called_with turns depth task vs None = None
-  called_with turns depth task vs (Some t) = cond (nat_le (length vs) t.slots)
-      (option_map (opening_with turns depth task t.slots vs) (required_all t.needs vs)) None
+  -- a call that can't be made
+  abbrev pub refused : Call (regent_ground (spaces_of code))
+  refused = record (opening_with 0 0 0 0 [] []) { may = false }
 
-  abbrev pub called : ℕ → ℕ → CallOut → Option (Call (regent_ground (spaces_of code)))
+  abbrev pub opened_with :
+      ℕ → ℕ → ℕ → ℕ → List board.Value → Option (List Requirement) → Call (regent_ground (spaces_of code))
+  opened_with turns depth task slots vs (Some needs) = opening_with turns depth task slots vs needs
+  opened_with turns depth task slots vs None = refused
+
+  abbrev pub called_with :
+      ℕ → ℕ → ℕ → List board.Value → Option TaskCode → Call (regent_ground (spaces_of code))
+  called_with turns depth task vs None = refused
+  called_with turns depth task vs (Some t) = cond (nat_le (length vs) t.slots)
+      (opened_with turns depth task t.slots vs (required_all t.needs vs)) refused
+
+  abbrev pub called : ℕ → ℕ → CallOut → Call (regent_ground (spaces_of code))
   called turns depth c =
       called_with turns depth c.task (map value_out c.args) (slice_get code.tasks c.task)
 
-  abbrev pub called_all : ℕ → ℕ → List CallOut → Option (List (Call (regent_ground (spaces_of code))))
-  called_all turns depth [] = Some []
-  called_all turns depth (c ∷ cs) = and_all (called turns depth c) (called_all turns depth cs)
-
   -- ---- what a segment gives
-
-  abbrev pub calls_out : Option (List (Call (regent_ground (spaces_of code)))) → BoardYield (regent_ground (spaces_of code))
-  calls_out (Some cs) = calls cs
-  calls_out None = no_call
 
   -- behind the frame from which it ran
   abbrev pub yield_out : ℕ → board.Frame → Yield → BoardYield (regent_ground (spaces_of code))
-  yield_out turns f (yield.Calls cs) = calls_out (called_all turns f.depth cs)
+  yield_out turns f (yield.Calls cs) = calls (map (called turns f.depth) cs)
   yield_out turns f (yield.Want r k) = want (record { root = r.0; field = k })
   yield_out turns f (yield.Await i) = await i
   yield_out turns f (yield.Make d) = make (made_out d)

@@ -1,10 +1,10 @@
 -- Each step of a board leaves failures told.
-use Rattle.std.proofs.Common.{◌≡◌, ◌++◌, ◌∷◌, ◌∙◌, ◌||◌, Bool, List, None, Option, Some, [], cond, false, refl, subst, sym, ap, true, drop, take, suc, zero, ℕ}
+use Rattle.std.proofs.Common.{◌&&◌, ◌≡◌, ◌++◌, ◌∷◌, ◌∙◌, ◌||◌, Bool, List, None, Option, Some, [], cond, false, refl, subst, sym, ap, true, drop, take, suc, zero, ℕ}
 use Rattle.std.proofs.lemmas.Bool.{false≢true}
 use Rattle.std.proofs.lemmas.Option.{none-some, same_Some}
 use Rattle.board_rules.specs.Ground.{Ground}
 use Rattle.board_rules.specs.Processes.{Map}
-use Rattle.board_rules.specs.Running.{Call, Element, Machine, Path, Spot, Yield, await, calls, ends, filled, make, no_call, stops, want}
+use Rattle.board_rules.specs.Running.{Call, Element, Machine, Path, Spot, Yield, await, calls, ends, filled, make, stops, want}
 use Rattle.board_rules.specs.Boards.{◌+++◌, Items, Kind, Operation, Stage, Stepped, all_issued, as_child, at_fault, awaited, back, behind, by, child_op, claim, closing, copied, copy, dropped, filling, first, give, given, has_failed, idle, in_op, is_over, is_ready, issued, meets_any, met_by, needs_of, no_item, nothing, op, out, over, own_step, said, stage_of, step_among, step_in, still_open, stopped, wants}
 use Rattle.board_rules.specs.Journals.{Entry, State, stepped}
 use Rattle.board_rules.specs.NumberedBoards.{entries, start}
@@ -18,7 +18,7 @@ module _ (G : Ground) (M : Machine G) where
 
   issued_told : (N : G.Needs) (xs : List (Call G)) → ChildrenTold G false (issued G M N xs)
   issued_told N [] = tt
-  issued_told N (x ∷ xs) = by_inside (M.inside x.needs N) (issued_told N xs)
+  issued_told N (x ∷ xs) = by_inside (x.may && M.inside x.needs N) (issued_told N xs)
     where
       by_inside : (b : Bool) → ChildrenTold G false (issued G M N xs) →
           ChildrenTold G false (cond b (child_op (op x.needs x.needs 0 x.frame [] (idle first) no_item) (issued G M N xs)) no_item)
@@ -43,7 +43,6 @@ module _ (G : Ground) (M : Machine G) where
       by_sound false = (tt, fresh_behind G false is (said t no_item) h tt)
   given_told p D N i is t f ps (ends v) h = (tt, fresh_behind G false is (said t no_item) h tt)
   given_told p D N i is t f ps (stops x) h = (tt, fresh_behind G false is (said t no_item) h tt)
-  given_told p D N i is t f ps no_call h = (tt, fresh_behind G false is (said t no_item) h tt)
 
   -- what a step leaves: failures are told, and it isn't dropped
   abbrev IfTold : Option (Stepped G (Operation G)) → Type 0
@@ -68,7 +67,6 @@ module _ (G : Ground) (M : Machine G) where
       by_sound false e = e
   given_undropped p D N i is t f ps (ends v) = λ d. d
   given_undropped p D N i is t f ps (stops x) = λ d. d
-  given_undropped p D N i is t f ps no_call = λ d. d
 
   own_told : (k : Kind) (p : Path G) (before : Bool) (m : Map G) (D N : G.Needs) (i : ℕ) (f : G.Frame) (ps : List (Element G)) (st : Stage G) (is : Items G) →
       ChildrenTold G false is → IfTold (own_step G M k p before m (op D N i f ps st is))

@@ -14,7 +14,7 @@ use Rattle.board_rules.specs.Ground.{Ground}
 use Rattle.board_rules.specs.Journals.{stepped}
 use Rattle.board_rules.specs.NumberedBoards.{Board, Step, by_way, children_among, children_at, moved, more_ways, way_of}
 use Rattle.board_rules.specs.RootNumbers.{made_in}
-use Rattle.board_rules.specs.Running.{Element, Machine, Yield as BoardYield, await, calls, ends, make, no_call, stops, want}
+use Rattle.board_rules.specs.Running.{Element, Machine, Yield as BoardYield, await, calls, ends, make, stops, want}
 use Rattle.regent_boards.specs.Frames as board
 use Rattle.regent_boards.specs.RegentMachine.{regent_ground}
 use Rattle.code_boards.specs.Laws.{machine_of}
@@ -109,7 +109,6 @@ module _ (job : Job) (makings : ℕ) where
   given_here p D N i is t f ps (make d) = refl
   given_here p D N i is t f ps (ends v) = refl
   given_here p D N i is t f ps (stops x) = refl
-  given_here p D N i is t f ps no_call = refl
 
 module _ (opening : YieldsAllOpen) (closings : ClosingsShow) (job : Job) (s : State) (b : Board (regent_ground (spaces_of job.code))) (h : ShowsBoard job s b) (k seat : ℕ) where
   abbrev step : Step

@@ -2,7 +2,7 @@
 use Rattle.std.proofs.Common.{◌≡◌, ◌++◌, ◌+◌, ◌∷◌, ◌∙◌, ◌&&◌, ◌≤◌, Bool, List, None, Option, Some, [], ap, arith, cond, false, le_refl, refl, subst, suc, sym, true, zero, ℕ}
 use Rattle.board_rules.specs.Ground.{Ground}
 use Rattle.board_rules.specs.Processes.{Map}
-use Rattle.board_rules.specs.Running.{After, Call, Element, Machine, Path, Yield, await, calls, ends, make, no_call, stops, want}
+use Rattle.board_rules.specs.Running.{After, Call, Element, Machine, Path, Yield, await, calls, ends, make, stops, want}
 use Rattle.board_rules.specs.Boards.{◌+++◌, Items, Kind, Operation, Stage, Stepped, as_child, at_fault, awaited, back, behind, claim, closing, copy, dropped, filling, first, give, given, has_failed, idle, in_op, is_over, is_ready, is_waiting, issued, child_op, meets_any, met_by, no_item, nothing, op, out, own_step, said, settle, step_among, step_in, still_open, sweep, unchanged, wants}
 use Rattle.board_rules.specs.Journals.{Entry}
 use Rattle.board_rules.specs.RootNames.{makes_among, makes_in, makes_now, makes_own}
@@ -53,7 +53,7 @@ module _ (G : Ground) (F : ℕ → Machine G) (M : Machine G) where
 
   issued_made : (N : G.Needs) (xs : List (Call G)) → made_among G F (issued G M N xs) ≡ 0
   issued_made N [] = refl
-  issued_made N (x ∷ xs) = by_test (M.inside x.needs N) (λ b. made_among G F (cond b (child_op (op x.needs x.needs 0 x.frame [] (idle first) no_item) (issued G M N xs)) no_item) ≡ 0)
+  issued_made N (x ∷ xs) = by_test (x.may && M.inside x.needs N) (λ b. made_among G F (cond b (child_op (op x.needs x.needs 0 x.frame [] (idle first) no_item) (issued G M N xs)) no_item) ≡ 0)
       (λ e. let h = issued_made N xs in omega (arith, h)) (λ e. refl)
 
   append_made : (is js : Items G) → made_among G F js ≡ 0 → made_among G F (◌+++◌ G is js) ≡ made_among G F is
@@ -131,7 +131,6 @@ module _ (G : Ground) (F : ℕ → Machine G) (M : Machine G) where
       by_way (c ∷ w) = append_count c w is (said t no_item)
   given_counted p D N i is t f g ps qs st (ends v) = same_counts D N N i g f qs [] st _ is (said t no_item) refl
   given_counted p D N i is t f g ps qs st (stops x) = same_counts D N N i g f qs [] st _ is (said t no_item) refl
-  given_counted p D N i is t f g ps qs st no_call = same_counts D N N i g f qs [] st _ is (said t no_item) refl
 
   own_counted : (k : Kind) (p : Path G) (before : Bool) (m : Map G) (a : Operation G) → IfLeft (own_step G M k p before m a) (Counted (makes_own G M k a) [] a)
   own_counted claim p before m (op D N i f ps (idle w) is) = by_test (is_ready G M before N w is)

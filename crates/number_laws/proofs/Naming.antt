@@ -4,7 +4,7 @@ use Rattle.std.proofs.lemmas.Bool.{and_from}
 use Rattle.std.proofs.lemmas.Option.{none-some, same_Some}
 use Rattle.board_rules.specs.Ground.{Ground}
 use Rattle.board_rules.specs.Processes.{Map}
-use Rattle.board_rules.specs.Running.{Element, Laws, Machine, Yield, await, calls, ends, make, no_call, stops, want}
+use Rattle.board_rules.specs.Running.{Element, Laws, Machine, Yield, await, calls, ends, make, stops, want}
 use Rattle.board_rules.specs.Boards.{Items, Kind, Operation, Stage, Stepped, back, claim, closing, copy, dropped, filling, give, idle, is_over, child_op, no_item, op, out, over, said, stage_of, step_in}
 use Rattle.board_rules.specs.Journals.{Entry, Job, State, answered, opened, order_run, outcome_with, replay, stepped, told, unfinished}
 use Rattle.board_rules.specs.Renaming.{Base, Renamed, Renames, Roots, ground_over, node_to}
@@ -119,7 +119,6 @@ module _ (B : Base) (X Y : Roots B) (M : ℕ → Machine (ground_over B X)) (K :
     named_yield p i (make d) h = h
     named_yield p i (ends v) h = tt
     named_yield p i (stops x) h = tt
-    named_yield p i no_call h = tt
 
     named_own : (k : Kind) (p : List ℕ) (D N : X.Needs) (i : ℕ) (f : X.Frame) (ps : List (Element G)) (st : Stage G) (is : Items G) →
         (makes_own G (M n) k (op D N i f ps st is) ≡ true → (maker n ≡ p) × (making n ≡ i)) → Rattle.number_laws.proofs.Renamed.NamedOwn B X Y M K R maker making W n k p (op D N i f ps st is)

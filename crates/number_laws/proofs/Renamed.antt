@@ -2,7 +2,7 @@
 use Rattle.std.proofs.Common.{◌≡◌, ◌++◌, ◌∷◌, ◌∙◌, ◌&&◌, ◌||◌, Bool, List, None, Option, Some, [], ap, cond, drop, false, is_some, not, option_map, refl, suc, sym, take, true, unwrap_or, zero, ℕ}
 use Rattle.board_rules.specs.Ground.{Ground, Mode, reads, reduces, writes}
 use Rattle.board_rules.specs.Processes.{Effect, Map, fold_in, put, run, run_all}
-use Rattle.board_rules.specs.Running.{After, Call, Element, Machine, Path, Spot, Yield, await, back_with, calls, ends, filled, make, no_call, number_of, puts, stops, want}
+use Rattle.board_rules.specs.Running.{After, Call, Element, Machine, Path, Spot, Yield, await, back_with, calls, ends, filled, make, number_of, puts, stops, want}
 use Rattle.board_rules.specs.Boards.{◌+++◌, Ending, Items, Kind, give, Operation, Stage, Stepped, Wait, after_segment, all_ended, all_issued, all_over, answer_of, as_child, at_fault, awaited, back, behind, by, child, claim, clear_of, close, closing, copied, copy, dropped, ending_with, failed_at, failed_on, filling, first, give, given, given_by, has_failed, idle, in_op, is_ended, is_over, is_ready, is_waiting, issued, child_op, meets_any, met_by, needs_of, no_item, nothing, op, out, over, own_step, part, said, settle, settle_stepped, step_among, step_in, still_open, stop, stopped, sweep, unchanged, waits_for_failed, wants}
 use Rattle.board_rules.specs.Renaming.{Base, Renamed, Renames, Roots, after_to, calls_to, effect, effects_to, element, elements, ending_to, ground_over, items_to, node_to, spots_to, stage_to, wait_to, yield_to}
 
@@ -240,12 +240,12 @@ module _ (B : Base) (X Y : Roots B) (M : ℕ → Machine (ground_over B X)) (K :
   issued_alike : (N : X.Needs) (xs : List (Call G)) → issued H K (R.needs N) (calls_to B X Y R xs) ≡ items_to B X Y R (issued G (M n) N xs)
   issued_alike N [] = refl
   issued_alike N (x ∷ xs) =
-      (λ r. cond (W.inside n x.needs N r) (child_op (op (R.needs x.needs) (R.needs x.needs) 0 (R.frame x.frame) [] (idle first) no_item) (issued_alike N xs r)) no_item)
-      ∙ through (items_to B X Y R) ((M n).inside x.needs N) (child_op (op x.needs x.needs 0 x.frame [] (idle first) no_item) (issued G (M n) N xs)) no_item
+      (λ r. cond (x.may && W.inside n x.needs N r) (child_op (op (R.needs x.needs) (R.needs x.needs) 0 (R.frame x.frame) [] (idle first) no_item) (issued_alike N xs r)) no_item)
+      ∙ through (items_to B X Y R) (x.may && (M n).inside x.needs N) (child_op (op x.needs x.needs 0 x.frame [] (idle first) no_item) (issued G (M n) N xs)) no_item
 
   all_issued_alike : (N : X.Needs) (xs : List (Call G)) → all_issued H K (R.needs N) (calls_to B X Y R xs) ≡ all_issued G (M n) N xs
   all_issued_alike N [] = refl
-  all_issued_alike N (x ∷ xs) = λ r. W.inside n x.needs N r && all_issued_alike N xs r
+  all_issued_alike N (x ∷ xs) = λ r. (x.may && W.inside n x.needs N r) && all_issued_alike N xs r
 
   -- a step that makes something makes what is named so at this place
   abbrev pub NamedYield : Path H → ℕ → Yield G → Type 0
@@ -288,7 +288,6 @@ module _ (B : Base) (X Y : Roots B) (M : ℕ → Machine (ground_over B X)) (K :
           (record { left = op D N i f [] (closing (at_fault B.broken)) (◌+++◌ G is (said t no_item)); effects = [] }))) (sym e)
   given_alike p D N i is t f ps (ends v) h = λ r. record { left = op (R.needs D) (R.needs N) i (R.frame f) [] (closing (by v)) (items_append is (said t no_item) r); effects = puts_alike ps r }
   given_alike p D N i is t f ps (stops x) h = λ r. record { left = op (R.needs D) (R.needs N) i (R.frame f) [] (closing (at_fault x)) (items_append is (said t no_item) r); effects = [] }
-  given_alike p D N i is t f ps no_call h = λ r. record { left = op (R.needs D) (R.needs N) i (R.frame f) [] (closing (at_fault B.broken)) (items_append is (said t no_item) r); effects = puts_alike ps r }
 
   copied_alike : (w : Wait G) (d : List (Element G)) (l : List (Spot G)) → copied H K (wait_to B X Y R w) (elements B X Y R d) (spots_to B X Y R l) ≡ stage_to B X Y R (copied G (M n) w d l)
   copied_alike w d [] = refl

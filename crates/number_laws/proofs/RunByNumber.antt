@@ -1,8 +1,8 @@
 -- The order run with roots by numbers is the order run with roots by names, renamed.
-use Rattle.std.proofs.Common.{◌≡◌, ◌++◌, ◌+◌, ◌∷◌, ◌∙◌, Bool, List, [], ap, arith, cond, false, length, refl, subst, suc, sym, true, zero, ℕ}
+use Rattle.std.proofs.Common.{◌&&◌, ◌≡◌, ◌++◌, ◌+◌, ◌∷◌, ◌∙◌, Bool, List, [], ap, arith, cond, false, length, refl, subst, suc, sym, true, zero, ℕ}
 use Rattle.board_rules.specs.Ground.{Ground}
 use Rattle.board_rules.specs.Processes.{Map, Process, Result, after, and_then, bind, done, fails, faults, gives, prefix, run_all, spent}
-use Rattle.board_rules.specs.Running.{Call, Element, Machine, Path, Yield, answer_at, await, calls, children, ends, filled, go_on, make, no_call, puts, run_on, stops, want, Rest}
+use Rattle.board_rules.specs.Running.{Call, Element, Machine, Path, Yield, answer_at, await, calls, children, ends, filled, go_on, make, puts, run_on, stops, want, Rest}
 use Rattle.board_rules.specs.Renaming.{Base, Renamed, Renames, Roots, calls_to, elements, ground_over, yield_to}
 use Rattle.board_rules.specs.NumberedRuns.{Counting, Making, RestRun, Run, bind_run, children_run, faulty, go_run, go_then, just, numbered_run}
 use Rattle.number_laws.proofs.Renamed.{elems_append, filled_alike, puts_alike, run_all_alike}
@@ -71,7 +71,7 @@ module _ (B : Base) (X Y : Roots B) (M : ℕ → Machine (ground_over B X)) (K :
   children_same a b w p N c (x ∷ xs) n m u e h =
       subst (λ t. Same (children_run G M a p N c (x ∷ xs) n m).result
       (cond t (bind H (b (c ∷ p) (R.needs x.needs) 0 (R.frame x.frame) [] []) (λ v. bind H (children H K b p (R.needs N) (suc c) (calls_to B X Y R xs)) (λ vs. gives H (v ∷ vs)))) (faults H B.broken) u))
-      (sym (W.inside n x.needs N)) (by_inside ((M n).inside x.needs N) h (children_same a b w p N (suc c) xs))
+      (ap (λ t. x.may && t) (sym (W.inside n x.needs N))) (by_inside (x.may && (M n).inside x.needs N) h (children_same a b w p N (suc c) xs))
     where
       rest_of : B.Answer → Counting G M (List B.Answer)
       rest_of v = bind_run G M (children_run G M a p N (suc c) xs) (λ vs. just G M (v ∷ vs))
@@ -125,7 +125,6 @@ module _ (B : Base) (X Y : Roots B) (M : ℕ → Machine (ground_over B X)) (K :
       by_sound false r = (refl, refl)
   go_same a b w p N i vs f ps (ends v) n m u e h = (refl, refl, subst (λ es. Maps (run_all G (puts G (M n) ps) m) (run_all H es u)) (sym (puts_alike B X Y M K R maker making W n ps)) (run_all_alike B X Y M K R maker making W n (puts G (M n) ps) m u e))
   go_same a b w p N i vs f ps (stops x) n m u e h = (refl, refl)
-  go_same a b w p N i vs f ps no_call n m u e h = (refl, refl)
 
   pub run_same : (k : ℕ) → AllSame (numbered_run G M k) (run_on H K k)
   run_same zero p N i f ps vs n m u e h = tt

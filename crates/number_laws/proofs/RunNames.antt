@@ -1,8 +1,8 @@
 -- The roots that an order run makes have names, no two alike.
-use Rattle.std.proofs.Common.{◌≡◌, ◌++◌, ◌+◌, ◌∷◌, ◌∙◌, ◌≤◌, ◌<◌, ◌⊎◌, Bool, List, [], ap, arith, cond, false, inl, inr, le_refl, length, refl, subst, suc, sym, true, zero, ℕ}
+use Rattle.std.proofs.Common.{◌&&◌, ◌≡◌, ◌++◌, ◌+◌, ◌∷◌, ◌∙◌, ◌≤◌, ◌<◌, ◌⊎◌, Bool, List, [], ap, arith, cond, false, inl, inr, le_refl, length, refl, subst, suc, sym, true, zero, ℕ}
 use Rattle.board_rules.specs.Ground.{Ground}
 use Rattle.board_rules.specs.Processes.{Map, Result, done, fails, prefix, run_all, spent}
-use Rattle.board_rules.specs.Running.{Call, Element, Machine, Path, Yield, await, calls, ends, make, no_call, puts, stops, under, want}
+use Rattle.board_rules.specs.Running.{Call, Element, Machine, Path, Yield, await, calls, ends, make, puts, stops, under, want}
 use Rattle.board_rules.specs.NumberedRuns.{Counting, Making, RestRun, Run, bind_run, children_run, faulty, go_run, go_then, just, numbered_run}
 use Rattle.board_laws.proofs.Reaching.{under_child, under_self}
 use Rattle.board_laws.proofs.Good.{under_both, under_length}
@@ -86,7 +86,7 @@ module _ (G : Ground) (M : ℕ → Machine G) where
   -- each child has as many answers as calls
   children_done : (a : RestRun G M) (p : Path G) (N : G.Needs) (c : ℕ) (xs : List (Call G)) (n : ℕ) (m : Map G) → IfDone (children_run G M a p N c xs n m).result (λ vs. length vs ≡ length xs)
   children_done a p N c [] n m = refl
-  children_done a p N c (x ∷ xs) n m = by_inside ((M n).inside x.needs N) (children_done a p N (suc c) xs)
+  children_done a p N c (x ∷ xs) n m = by_inside (x.may && (M n).inside x.needs N) (children_done a p N (suc c) xs)
     where
       rest_of : G.Answer → Counting G M (List G.Answer)
       rest_of v = bind_run G M (children_run G M a p N (suc c) xs) (λ vs. just G M (v ∷ vs))
@@ -107,7 +107,7 @@ module _ (G : Ground) (M : ℕ → Machine G) where
 
   children_names : (a : RestRun G M) → AllNames a → (p : Path G) (N : G.Needs) (c : ℕ) (xs : List (Call G)) (n : ℕ) (m : Map G) → Names (Among p c (c + length xs)) (children_run G M a p N c xs n m).made
   children_names a w p N c [] n m = no_names _
-  children_names a w p N c (x ∷ xs) n m = by_inside ((M n).inside x.needs N) (children_names a w p N (suc c) xs)
+  children_names a w p N c (x ∷ xs) n m = by_inside (x.may && (M n).inside x.needs N) (children_names a w p N (suc c) xs)
     where
       rest_of : G.Answer → Counting G M (List G.Answer)
       rest_of v = bind_run G M (children_run G M a p N (suc c) xs) (λ vs. just G M (v ∷ vs))
@@ -166,7 +166,6 @@ module _ (G : Ground) (M : ℕ → Machine G) where
       by_sound false = no_names _
   go_names a w p N i vs f ps (ends v) n m = no_names _
   go_names a w p N i vs f ps (stops x) n m = no_names _
-  go_names a w p N i vs f ps no_call n m = no_names _
 
   pub run_names : (k : ℕ) → AllNames (numbered_run G M k)
   run_names zero p N i f ps vs n m = no_names _

@@ -1,5 +1,5 @@
 -- The roots of a board's first task have its makings, and what it answers tells of each.
-use Rattle.std.proofs.Common.{◌≡◌, ℕ, suc, List, [], ◌∷◌, ◌++◌, Bool, true, false, cond, Option, Some, None, refl, sym, ◌∙◌, subst, drop, take}
+use Rattle.std.proofs.Common.{◌≡◌, ℕ, suc, List, [], ◌∷◌, ◌++◌, Bool, true, false, cond, map, Option, Some, None, refl, sym, ◌∙◌, subst, drop, take}
 use Rattle.std.proofs.lemmas.Option.{none-some, same_Some}
 use Rattle.region_tree.specs.Requirements.{Requirement}
 use Rattle.task_code.specs.declared.code.Code.{Code}
@@ -13,11 +13,11 @@ use Rattle.board_rules.specs.Boards.{◌+++◌, Items, Kind, Operation, Stage, S
 use Rattle.board_rules.specs.Ground.{Ground}
 use Rattle.board_rules.specs.Journals.{Entry, State, after_entries, stepped}
 use Rattle.board_rules.specs.Processes.{Map}
-use Rattle.board_rules.specs.Running.{Call, Element, Machine as BoardMachine, Spot, filled}
+use Rattle.board_rules.specs.Running.{Call, Element, Machine as BoardMachine, Spot, calls, filled}
 use Rattle.regent_boards.specs.Frames as board
 use Rattle.regent_boards.specs.Laws.{by_maker}
 use Rattle.regent_boards.specs.RegentMachine.{name_of, own_roots, regent_ground, root_of, size_of, space_of}
-use Rattle.code_boards.specs.Views.{before_in, board_segment, called_all, calls_out, last_frame, made_out, spaces_of, yield_out}
+use Rattle.code_boards.specs.Views.{before_in, board_segment, called, last_frame, made_out, spaces_of, yield_out}
 use Rattle.order_boards.proofs.Stands.{root_size, root_space}
 
 -- each root has the name of this making of the operation at a place
@@ -112,9 +112,8 @@ module _ (code : Code) (turns : ℕ) where
     abbrev g : board.Frame
     g = last_frame f o
 
-    calls_first : (xs : Option (List (Call G))) → IsFirst (given G K [] D N i is t g ps (calls_out code xs)).left
-    calls_first None = (last_named f o h, tt)
-    calls_first (Some xs) = (last_named f o h, by_issued (all_issued G K N xs))
+    calls_first : (xs : List (Call G)) → IsFirst (given G K [] D N i is t g ps (calls xs)).left
+    calls_first xs = (last_named f o h, by_issued (all_issued G K N xs))
       where
         by_issued : (b : Bool) → Told (cond b (idle nothing) (closing (at_fault board.broken))) g
         by_issued true = tt
@@ -131,7 +130,7 @@ module _ (code : Code) (turns : ℕ) where
         by_sound false = (last_named f o h, tt)
 
     given_first : (y : Yield) → IsFirst (given G K [] D N i is t g ps (yield_out code turns f y)).left
-    given_first (yield.Calls cs) = calls_first (called_all code turns f.depth cs)
+    given_first (yield.Calls cs) = calls_first (map (called code turns f.depth) cs)
     given_first (yield.Want r k) = (last_named f o h, tt)
     given_first (yield.Await c) = (last_named f o h, tt)
     given_first (yield.Make d) = made_first d

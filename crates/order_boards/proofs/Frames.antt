@@ -58,7 +58,7 @@ module _ (s : ℕ → ℕ) where
     needs = (ap (λ (h : Frame). h.needs) e ∙ ap (λ n. record { items = map (need_to (names s)) n }) (ap (λ (n : Needs). n.items) (sym fixed.needs))) i;
     own = (ap (λ (h : Frame). h.own) e ∙ ap (map (root_to (names s))) (sym fixed.own)) i;
     children = x.frame.children;
-    later = (ap (λ (h : Frame). h.later) e ∙ sym fixed.later) i;
+    later = x.frame.later;
   }
 
 pub some_less : (n : ℕ) → nat_lt 0 (suc n) ≡ true

@@ -1,6 +1,6 @@
 -- The run in order of a job, as the machine's definition gives it, is the run by numbers.
 use Rattle.std.proofs.Common.{◌≡◌, ℕ, suc, ◌+◌, ◌<◌, pos, List, [], ◌∷◌, true, cond, None, refl, sym, ap, ◌∙◌, ⊎_elim, subst, map, arith}
-use Rattle.std.specs.Prelude.{length, ◌-◌}
+use Rattle.std.specs.Prelude.{length}
 use Rattle.std.specs.List.Sorted.{IsStrictlyIncreasing}
 use Rattle.std.proofs.lemmas.Bool.{false≢true}
 use Rattle.plain_values.specs.Points.{has}

@@ -1,5 +1,5 @@
 -- The run of an instance in order, and of its operation by numbers, come to the same.
-use Rattle.std.proofs.Common.{◌≡◌, ℕ, zero, suc, ◌+◌, ◌<◌, ◌≤◌, List, [], ◌∷◌, ◌++◌, Bool, true, false, cond, Option, Some, None, refl, sym, ap, ◌∙◌, subst, option_map, arith, append-nil}
+use Rattle.std.proofs.Common.{◌≡◌, ℕ, zero, suc, ◌+◌, ◌<◌, ◌≤◌, List, [], ◌∷◌, ◌++◌, Bool, true, false, cond, Some, refl, sym, ap, ◌∙◌, subst, map, option_map, arith, append-nil}
 use Rattle.std.specs.Prelude.{length}
 use Rattle.region_tree.specs.declared.tree.RootId.{RootId}
 use Rattle.region_tree.specs.Requirements.{Requirement}
@@ -14,7 +14,6 @@ use Rattle.machine_terms.specs.declared.outcome.Made.TheVariants as made
 use Rattle.machine_terms.specs.declared.outcome.Yield.{Yield}
 use Rattle.machine_terms.specs.declared.outcome.Yield.TheVariants as yield
 use Rattle.machine_terms.specs.declared.value.RegionValue.{RegionValue}
-use Rattle.machine_terms.specs.declared.value.Value.{Value}
 use Rattle.machine_terms.specs.Contents.{image_of}
 use Rattle.machine_terms.specs.Copies.{give_parts}
 use Rattle.machine_terms.specs.Machine.{Machine}
@@ -27,9 +26,9 @@ use Rattle.machine_terms.proofs.StepKinds.{Fixed}
 use Rattle.memory_laws.specs.Places.{numbers}
 use Rattle.memory_laws.proofs.Shapes.{alike_parts, length_of}
 use Rattle.board_rules.specs.Ground.{Ground}
-use Rattle.board_rules.specs.NumberedRuns.{Making, RestRun, Run, go_run, makes_then, faulty, numbered_run, says_run}
+use Rattle.board_rules.specs.NumberedRuns.{Making, RestRun, go_run, makes_then, faulty, numbered_run, says_run}
 use Rattle.board_rules.specs.Processes.{Map, prefix, run_all}
-use Rattle.board_rules.specs.Running.{Call, Element, Machine as BoardMachine, puts}
+use Rattle.board_rules.specs.Running.{Element, Machine as BoardMachine, calls, puts}
 use Rattle.regent_boards.specs.Frames as board
 use Rattle.regent_boards.specs.Laws.{by_number}
 use Rattle.regent_boards.specs.RegentMachine.{regent_ground}
@@ -38,11 +37,11 @@ use Rattle.segment_renaming.specs.Renaming.{after_to, before_to, call_to, frame_
 use Rattle.segment_renaming.proofs.Segments.{segment_same}
 use Rattle.order_laws.specs.Bounds.{Bounds, runs_within, segments_within}
 use Rattle.order_laws.proofs.Resuming.{left_by}
-use Rattle.code_boards.specs.Views.{after_out, and_all, before_in, board_segment, called, calls_out, last_frame, region_out, spaces_of, yield_out}
+use Rattle.code_boards.specs.Views.{after_out, before_in, board_segment, called, last_frame, region_out, spaces_of, yield_out}
 use Rattle.segment_regions.proofs.Asked.{IsAsked, segments_ask}
 use Rattle.order_boards.proofs.Alike.{Alike, EndsAlike, Grown, RunsAlike, ends_on, grown_self, naming_back, own_below, own_live}
 use Rattle.order_boards.proofs.Behind.{LeftAlike, given_grown, given_names, given_stands, gone_alike, gone_on, left, other, other_names, seen}
-use Rattle.order_boards.proofs.Called.{any_spent, call_alike}
+use Rattle.order_boards.proofs.Called.{any_spent, calls_alike}
 use Rattle.order_boards.proofs.OwnRoots.{Owns, owns_same, own_told, told_same}
 use Rattle.order_boards.proofs.Making.{who_more, who_new}
 use Rattle.order_boards.proofs.Needs.{covered_still}
@@ -57,16 +56,9 @@ module _ (code : Code) (turns : ℕ) where
   abbrev M : ℕ → BoardMachine G
   M = by_number (spaces_of code) (board_segment code turns)
 
-  -- parts go back before children run, if any child does
-  calls_given : (rest : RestRun G M) (p : List ℕ) (N : List Requirement) (j : ℕ) (vs : List board.Answer) (f : board.Frame) (ps : List (Element G))
-      (o : Option (List (Call G))) (n : ℕ) (m : Map G) →
-      go_run G M rest p N j vs f [] (calls_out code o) n (run_all G (puts G (M n) ps) m) ≡ go_run G M rest p N j vs f ps (calls_out code o) n m
-  calls_given rest p N j vs f ps None n m = refl
-  calls_given rest p N j vs f ps (Some xs) n m = refl
-
-  abbrev args_in : Yield → List Value
-  args_in (yield.Calls (c ∷ cs)) = c.args
-  args_in _ = []
+  abbrev calls_in : Yield → List CallOut
+  calls_in (yield.Calls cs) = cs
+  calls_in _ = []
 
   abbrev region_in : RegionValue → Yield → RegionValue
   region_in r (yield.Make (made.Partition q sets d)) = q
@@ -176,8 +168,8 @@ module _ (code : Code) (turns : ℕ) where
                 (λ r2 h. ap (region_in r) (same r2 h).1))
             chosen false = (ap (λ y. i.text ++ y) (sym (append-nil t)), refl)
 
-        call_behind : (c : CallOut) → Left (yield.Calls (c ∷ [])) → Behind (yield.Calls (c ∷ []))
-        call_behind c same =
+        calls_behind : (cs : List CallOut) → Left (yield.Calls cs) → Behind (yield.Calls cs)
+        calls_behind cs same =
             let u = run_all G (puts G (M n) qs) m in
             let held = give_all on in
             let grown = given_grown code turns before who n i N f ps vs m a x t fixed in
@@ -197,25 +189,23 @@ module _ (code : Code) (turns : ℕ) where
               fit = tt;
               held = tt;
             } in
-            let e = until_over (call_all code turns child (c ∷ []) held) next in
-            let issued = λ (d : ℕ). and_all code (called code turns d (call_to (names s) c)) (Some []) in
-            let one = call_alike code turns k before who n held N g vs u given p j child next
-            (λ now l d h needs O frame w al. less (numbers d) now l (begun h needs d) O frame [] [] w (length vs ∷ p) 0 (b.segments h) more al
+            let e = until_over (call_all code turns child cs held) next in
+            let issued = λ (d : ℕ). map (called code turns d) (map (call_to (names s)) cs) in
+            let one = calls_alike code turns k before N g p j child next
+            (λ ws now l d h needs O frame w al. less (numbers d) now l (begun h needs d) O frame [] [] w (length ws ∷ p) 0 (b.segments h) more al
             (omega (arith, bounded, large h)) deep bounded)
             (λ now l y ws w al. less before now l y N g [] ws w p j q (suc more) al room (omega (arith, deep)) bounded)
-            refl s (given_names code turns before who n i N f ps vs m a x t fixed s is) c
-            (λ r h. ap args_in (same r (back r h)).1) in
-            let two = subst (λ d. RunsAlike code p held.frame.own g.makings before who n held.contents held.text e (go_run G M rest p N j vs g [] (calls_out code (issued d)) n u))
+            cs who n held vs u given s (given_names code turns before who n i N f ps vs m a x t fixed s is)
+            (λ r h. ap calls_in (same r (back r h)).1) in
+            let two = subst (λ d. RunsAlike code p held.frame.own g.makings before who n held.contents held.text e (go_run G M rest p N j vs g [] (calls (issued d)) n u))
             (fixed.depth ∙ ap (λ (h : Frame). h.depth) (sym (a.frame s is))) one in
-            let r = go_run G M rest p N j vs g qs (calls_out code (issued f.depth)) n m in
-            let three : RunsAlike code p held.frame.own g.makings before who n held.contents held.text e r = subst (λ (r : Run G board.Answer). RunsAlike code p held.frame.own g.makings before who n held.contents held.text e r)
-            (calls_given rest p N j vs g qs (issued f.depth) n m) two in
+            let r = go_run G M rest p N j vs g qs (calls (issued f.depth)) n m in
             ends_on code p i.frame.own held.frame.own f.makings g.makings before who who n i.contents held.contents i.text t [] grown
             (own_below code before who n held N g [] vs u given) (kept []) e r.made r.result
-            (subst (λ l. EndsAlike code p held.frame.own g.makings before who l held.contents held.text e r.made r.result) count three)
+            (subst (λ l. EndsAlike code p held.frame.own g.makings before who l held.contents held.text e r.made r.result) count two)
 
         by_yield : (y : Yield) → IsAsked y x → Left y → Behind y
-        by_yield (yield.Calls cs) asked same = subst (λ cs. Left (yield.Calls cs) → Behind (yield.Calls cs)) (sym asked.1) (call_behind asked.0) same
+        by_yield (yield.Calls cs) asked same = calls_behind cs same
         by_yield (yield.Want r field) asked same = goes_on t [] who n _ N g _ vs m j (grown_self i.contents who) refl count (kept [])
             (fetched_alike code turns before who n on N g qs vs m (gone (λ r h. (same r h).0)) s is r.0 field asked.needed asked.none)
         by_yield (yield.Await c) asked same = goes_on t [] who n _ N _ qs vs m j (grown_self i.contents who) refl count (kept [])

@@ -1,11 +1,11 @@
 -- What a step leaves of the ways and the claims of a board.
-use Rattle.std.proofs.Common.{◌≡◌, ◌++◌, ◌∷◌, ◌∙◌, ◌≤◌, ◌<◌, ◌⊎◌, Bool, List, None, Option, Some, [], ap, arith, cond, false, inl, inr, refl, subst, suc, sym, true, zero, ℕ}
+use Rattle.std.proofs.Common.{◌&&◌, ◌≡◌, ◌++◌, ◌∷◌, ◌∙◌, ◌≤◌, ◌<◌, ◌⊎◌, Bool, List, None, Option, Some, [], ap, arith, cond, false, inl, inr, refl, subst, suc, sym, true, zero, ℕ}
 use Rattle.board_rules.specs.Boards.{◌+++◌, Items, Kind, Operation, Stage, Stepped, all_issued, as_child, at_fault, awaited, back, behind, by, child, child_count, child_op, claim, closing, copy, filling, first, give, given, idle, in_op, is_over, is_ready, issued, met_by, no_item, nothing, op, out, own_step, part, said, settle, step_among, step_in, still_open, unchanged, wants}
 use Rattle.board_rules.specs.Ground.{Ground}
 use Rattle.board_rules.specs.NumberedBoards.{children_among, children_at}
 use Rattle.board_rules.specs.Processes.{Map}
 use Rattle.board_rules.specs.Ready.{is_claimed}
-use Rattle.board_rules.specs.Running.{After, Call, Element, Machine, Path, Yield, await, calls, ends, make, no_call, stops, want}
+use Rattle.board_rules.specs.Running.{After, Call, Element, Machine, Path, Yield, await, calls, ends, make, stops, want}
 use Rattle.board_laws.proofs.Reaching.{by_test}
 use Rattle.number_laws.proofs.Counts.{IfLeft}
 use Rattle.progress_laws.proofs.Settled.{claimed, claimed_among, leads, leads_among, settle_children, settle_claimed, settle_leads}
@@ -71,7 +71,7 @@ module _ (G : Ground) (F : ℕ → Machine G) (M : Machine G) where
 
   issued_fresh : (N : G.Needs) (xs : List (Call G)) → Fresh (issued G M N xs)
   issued_fresh N [] = record { ways = λ x w e. absurd cc; claims = λ x w e. absurd cc }
-  issued_fresh N (y ∷ ys) = by_test (M.inside y.needs N) (λ b. Fresh (cond b (child_op (op y.needs y.needs 0 y.frame [] (idle first) no_item) (issued G M N ys)) no_item))
+  issued_fresh N (y ∷ ys) = by_test (y.may && M.inside y.needs N) (λ b. Fresh (cond b (child_op (op y.needs y.needs 0 y.frame [] (idle first) no_item) (issued G M N ys)) no_item))
       (λ b. one_more y.needs y.frame (issued G M N ys) (issued_fresh N ys)) (λ b. record { ways = λ x w e. absurd cc; claims = λ x w e. absurd cc })
 
   said_fresh : (t : List G.Byte) (js : Items G) → Fresh js → Fresh (said t js)
@@ -138,7 +138,6 @@ module _ (G : Ground) (F : ℕ → Machine G) (M : Machine G) where
       (λ e. ended give D N N i i g f qs [] st (closing (at_fault G.broken)) is (said t no_item) refl (no_child t))
   given_leaves p D N i is t f g ps qs st (ends v) = ended give D N N i i g f qs [] st (closing (by v)) is (said t no_item) refl (no_child t)
   given_leaves p D N i is t f g ps qs st (stops x) = ended give D N N i i g f qs [] st (closing (at_fault x)) is (said t no_item) refl (no_child t)
-  given_leaves p D N i is t f g ps qs st no_call = ended give D N N i i g f qs [] st (closing (at_fault G.broken)) is (said t no_item) refl (no_child t)
 
   own_leaves : (k : Kind) (p : Path G) (before : Bool) (m : Map G) (a : Operation G) → IfLeft G F M (own_step G M k p before m a) (Leaves k [] a)
   own_leaves claim p before m (op D N i f ps (idle w) is) = by_test (is_ready G M before N w is)

@@ -1,5 +1,5 @@
 -- Over numbers of roots and over names of roots the small machine does the same, renamed.
-use Rattle.std.proofs.Common.{◌≡◌, ◌++◌, ◌∷◌, ◌∙◌, ◌&&◌, Bool, List, None, Option, Some, [], ap, cond, nat_eq, not, refl, suc, sym, zero, ℕ}
+use Rattle.std.proofs.Common.{◌≡◌, ◌++◌, ◌∷◌, ◌∙◌, ◌&&◌, Bool, List, None, Option, Some, [], ap, cond, nat_eq, not, refl, suc, sym, zero, ℕ, true}
 use Rattle.board_rules.specs.Ground.{Mode, writes}
 use Rattle.board_rules.specs.Processes.{put}
 use Rattle.board_rules.specs.Running.{After, Element, Machine, calls, stops, want}
@@ -147,7 +147,7 @@ module _ (A : Type 0) (sa : A → A → Bool) (am : A → List ℕ) (an : A → 
         by_touch h no_root = refl
         by_touch h (no_part l) = refl
         by_touch h (meets_number l v) = h l
-    segment_alike (call w c k) t n rs ps = λ i. yields C sc cm cn names t k n (roots_to rs) (elements base XA YC renames ps) (calls (record { needs = wants_alike rs w i; frame = record { code = c; number = n; roots = roots_to rs } } ∷ []))
+    segment_alike (call w c k) t n rs ps = λ i. yields C sc cm cn names t k n (roots_to rs) (elements base XA YC renames ps) (calls (record { may = true; needs = wants_alike rs w i; frame = record { code = c; number = n; roots = roots_to rs } } ∷ []))
     segment_alike (hear c k) t n rs ps = refl
     segment_alike (new_root size k) t n rs ps = refl
 

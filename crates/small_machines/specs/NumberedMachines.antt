@@ -146,7 +146,7 @@ module _ (A : Type 0) (same_root : A → A → Bool) (maker : A → List ℕ) (m
     | no_part l ↦ yields t (store c x k) n rs ps (want l)
     | meets_number l v ↦ segment k t n rs (store_at l n ps)
   ]
-  segment (call w c k) t n rs ps = yields t k n rs ps (calls (record { needs = needs_of rs w; frame = record { code = c; number = n; roots = rs } } ∷ []))
+  segment (call w c k) t n rs ps = yields t k n rs ps (calls (record { may = true; needs = needs_of rs w; frame = record { code = c; number = n; roots = rs } } ∷ []))
   segment (hear c k) t n rs ps = yields t k n rs ps (await c)
   segment (new_root size k) t n rs ps = yields t k n rs ps (make size)
 

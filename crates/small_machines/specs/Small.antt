@@ -158,7 +158,7 @@ segment (print k) t n ps = segment k (t ++ n ∷ []) n ps
 segment (set v k) t n ps = segment k t v ps
 segment (load l k) t n ps = elim (number_at l ps) [ Some v ↦ segment k t v ps | None ↦ yields t (load l k) n ps (want l) ]
 segment (store l k) t n ps = elim (number_at l ps) [ Some v ↦ segment k t n (store_at l n ps) | None ↦ yields t (store l k) n ps (want l) ]
-segment (call N c k) t n ps = yields t k n ps (calls (record { needs = N; frame = record { code = c; number = n } } ∷ []))
+segment (call N c k) t n ps = yields t k n ps (calls (record { may = true; needs = N; frame = record { code = c; number = n } } ∷ []))
 segment (hear c k) t n ps = yields t k n ps (await c)
 segment (new_root size k) t n ps = yields t k n ps (make size)
 

@@ -8,7 +8,7 @@ use Rattle.board_rules.specs.Boards.{Items, Operation as Node, Stage as BoardSta
 use Rattle.board_rules.specs.Boards as tree
 use Rattle.board_rules.specs.Ground.{Ground}
 use Rattle.board_rules.specs.RootNumbers.{made_among, made_in}
-use Rattle.board_rules.specs.Running.{Element, Machine, Yield, await, calls, ends, make, no_call, stops, want}
+use Rattle.board_rules.specs.Running.{Element, Machine, Yield, await, calls, ends, make, stops, want}
 use Rattle.regent_boards.specs.Frames as board
 use Rattle.regent_boards.specs.RegentMachine.{regent_ground}
 use Rattle.code_boards.specs.Laws.{machine_of}
@@ -98,7 +98,6 @@ module _ (job : Job) where
     given_needs : (D N : List Requirement) (i : ℕ) (is : Items G) (t : List ℕ) (f : board.Frame) (ps : List (Element G)) (y : Yield G) →
         needs_issued job (restop (tree.given G M [] D N i is t f ps y).left) ≡ D
     given_needs D N i is t f ps (calls xs) = refl
-    given_needs D N i is t f ps no_call = refl
     given_needs D N i is t f ps (want k) = refl
     given_needs D N i is t f ps (await c) = refl
     given_needs D N i is t f ps (make d) = chosen (M.sound d)
