@@ -29,6 +29,7 @@ use Rattle.fit_rules.specs.Marks.{stacked}
 use Rattle.fit_rules.specs.Fits.{Program, kind_at, shape_at, claims, Covers, CellNumber, CellFits, PartFits, PartsFit, Fits}
 use Rattle.fit_rules.specs.Sound.{Allowed, Through, To}
 use Rattle.fit_rules.specs.Ends.{StopsWell, Safe, safe_goes, safe_stops}
+use Rattle.fit_laws.proofs.Held.{over}
 use Rattle.fit_laws.proofs.Lookup.{value_at}
 use Rattle.fit_laws.proofs.Numbers.{KeptAs, kept_int, kept_int64, kept_as_truth, kept_index, kept_pointer, is_kept, kept_is, kept_numeric}
 use Rattle.fit_laws.proofs.Cover.{Permits, read_reads, write_reads, write_writes, reduce_reduces, write_reduces, Joined, covered_granted, claimed_needed}
@@ -253,7 +254,7 @@ module _ (g : Program) (x : World) (t : TaskCode) (k : ℕ) (m : Machine) (fit :
   -- ---- reads
 
   read_mode : (root f sp : ℕ) (ss : List Shape) (md : Mode) (z : ℤ) (st : List Value) →
-      To g t k (stacked (g.marks k m.frame.pc) (shape_at g sp f ∷ ss)) (suc m.frame.pc) → Are x ss st →
+      To g t k (stacked (g.marks k m.frame.pc) (shape_at g sp f ∷ ss)) (suc m.frame.pc) → Are (over g x k m) ss st →
       x.spaces root ≡ sp → Permits mode.Read md →
       CellNumber (kind_at g (x.spaces root) f) (shape_at g (x.spaces root) f) md z →
       Safe g x t k (read_in md z st m)
@@ -263,7 +264,7 @@ module _ (g : Program) (x : World) (t : TaskCode) (k : ℕ) (m : Machine) (fit :
       pushed g x t k m fit _ ss z st h (subst (λ y. NumberIs (shape_at g y f) z) e n) a
 
   read_found : (root f p sp : ℕ) (ss : List Shape) (o : Found) (st : List Value) →
-      To g t k (stacked (g.marks k m.frame.pc) (shape_at g sp f ∷ ss)) (suc m.frame.pc) → Are x ss st →
+      To g t k (stacked (g.marks k m.frame.pc) (shape_at g sp f ∷ ss)) (suc m.frame.pc) → Are (over g x k m) ss st →
       x.spaces root ≡ sp → is_needed m.frame.needs.items root f ≡ true →
       FoundWell root f p mode.Read o → Safe g x t k (read_cell root f o st m)
   read_found root f p sp ss _ st h a e i (missing_well none) = safe_stops _ _ (wants_well root f i none)
@@ -271,7 +272,7 @@ module _ (g : Program) (x : World) (t : TaskCode) (k : ℕ) (m : Machine) (fit :
       read_mode root f sp ss c.mode c.value st h a e pm n
 
   read_aimed : (sp f line : ℕ) (ss : List Shape) (o : Aimed) (st : List Value) →
-      To g t k (stacked (g.marks k m.frame.pc) (shape_at g sp f ∷ ss)) (suc m.frame.pc) → Are x ss st →
+      To g t k (stacked (g.marks k m.frame.pc) (shape_at g sp f ∷ ss)) (suc m.frame.pc) → Are (over g x k m) ss st →
       AimedWell sp f mode.Read o → Safe g x t k (read_at f line o st m)
   read_aimed sp f line ss _ st h a (aims_well root p c e) = read_found root f p sp ss _ st h a e
       (needed root f p mode.Read c) (find_well root f p mode.Read c)
@@ -280,7 +281,7 @@ module _ (g : Program) (x : World) (t : TaskCode) (k : ℕ) (m : Machine) (fit :
   pub read_safe : (rs : List ℕ) (f sp n line : ℕ) (ss : List Shape) →
       Through g t (g.marks k m.frame.pc) sp f mode.Read n rs →
       To g t k (stacked (g.marks k m.frame.pc) (shape_at g sp f ∷ ss)) (suc m.frame.pc) →
-      Are x (pointer n ∷ ss) m.frame.stack → Safe g x t k (read rs f line m)
+      Are (over g x k m) (pointer n ∷ ss) m.frame.stack → Safe g x t k (read rs f line m)
   read_safe rs f sp n line ss r h a = safe_number g x t k m fit (pointer n) ss m.frame.stack _ (numeric_pointer n) a
       (λ z st i b. read_aimed sp f line ss _ st h b (aim_well sp f mode.Read n rs (target_kept z) r i.1))
 
@@ -291,7 +292,7 @@ module _ (g : Program) (x : World) (t : TaskCode) (k : ℕ) (m : Machine) (fit :
   same_width_itself W64 = refl
 
   set_safe_at : (root f p : ℕ) (z : ℤ) (q : Part) (c : Cell) (ss : List Shape) (st : List Value) →
-      To g t k (stacked (g.marks k m.frame.pc) ss) (suc m.frame.pc) → Are x ss st →
+      To g t k (stacked (g.marks k m.frame.pc) ss) (suc m.frame.pc) → Are (over g x k m) ss st →
       part_of m.parts root f ≡ Some q → cell_at q.pieces p ≡ Some c →
       CellNumber (kind_at g (x.spaces root) f) (shape_at g (x.spaces root) f) c.mode z →
       Safe g x t k (set_found root f p (Some z) st m)
@@ -307,7 +308,7 @@ module _ (g : Program) (x : World) (t : TaskCode) (k : ℕ) (m : Machine) (fit :
     reduces_value : (o : Op) (w : Width) (z : ℤ) → KeptAs kd s → s ≡ integer w → Writes kd s (mode.Reduce o) z
 
   set_mode : (root f p : ℕ) (a md : Mode) (z : ℤ) (q : Part) (c : Cell) (ss : List Shape) (st : List Value) →
-      To g t k (stacked (g.marks k m.frame.pc) ss) (suc m.frame.pc) → Are x ss st → c.mode ≡ md →
+      To g t k (stacked (g.marks k m.frame.pc) ss) (suc m.frame.pc) → Are (over g x k m) ss st → c.mode ≡ md →
       Writes (kind_at g (x.spaces root) f) (shape_at g (x.spaces root) f) a z → Permits a md →
       part_of m.parts root f ≡ Some q → cell_at q.pieces p ≡ Some c →
       Safe g x t k (set_found root f p (written a md (width_of (kind_at g (x.spaces root) f)) c.value z) st m)
@@ -326,7 +327,7 @@ module _ (g : Program) (x : World) (t : TaskCode) (k : ℕ) (m : Machine) (fit :
       (closed o (width_of (kind_at g (x.spaces root) f)) c.value _, λ y i. reduced_is _ _ w o y _ kp e)))
 
   set_found_safe : (root f p : ℕ) (a : Mode) (w : Width) (z : ℤ) (o : Found) (ss : List Shape) (st : List Value) →
-      To g t k (stacked (g.marks k m.frame.pc) ss) (suc m.frame.pc) → Are x ss st →
+      To g t k (stacked (g.marks k m.frame.pc) ss) (suc m.frame.pc) → Are (over g x k m) ss st →
       w ≡ width_of (kind_at g (x.spaces root) f) → is_needed m.frame.needs.items root f ≡ true →
       Writes (kind_at g (x.spaces root) f) (shape_at g (x.spaces root) f) a z → FoundWell root f p a o →
       Safe g x t k (set_cell a w root f p z o st m)
@@ -342,7 +343,7 @@ module _ (g : Program) (x : World) (t : TaskCode) (k : ℕ) (m : Machine) (fit :
       (set_mode root f p a c.mode z q c ss st h b refl wr pm ep ec)))
 
   set_aimed : (sp f line : ℕ) (a : Mode) (z : ℤ) (o : Aimed) (ss : List Shape) (st : List Value) →
-      To g t k (stacked (g.marks k m.frame.pc) ss) (suc m.frame.pc) → Are x ss st →
+      To g t k (stacked (g.marks k m.frame.pc) ss) (suc m.frame.pc) → Are (over g x k m) ss st →
       Writes (kind_at g sp f) (shape_at g sp f) a z → AimedWell sp f a o →
       Safe g x t k (set_at a (width_of (kind_at g sp f)) f line z o st m)
   set_aimed sp f line a z _ ss st h b wr (aims_well root p c e) =
@@ -354,7 +355,7 @@ module _ (g : Program) (x : World) (t : TaskCode) (k : ℕ) (m : Machine) (fit :
   pub write_safe : (rs : List ℕ) (f sp n line : ℕ) (ss : List Shape) →
       Through g t (g.marks k m.frame.pc) sp f mode.Write n rs →
       To g t k (stacked (g.marks k m.frame.pc) ss) (suc m.frame.pc) →
-      Are x (pointer n ∷ shape_at g sp f ∷ ss) m.frame.stack →
+      Are (over g x k m) (pointer n ∷ shape_at g sp f ∷ ss) m.frame.stack →
       Safe g x t k (set mode.Write rs f (width_of (kind_at g sp f)) line m)
   write_safe rs f sp n line ss r h a = safe_two g x t k m fit (pointer n) (shape_at g sp f) ss m.frame.stack _ a
       (kept_numeric _ _ (is_kept g sp f)) (numeric_pointer n)
@@ -364,7 +365,7 @@ module _ (g : Program) (x : World) (t : TaskCode) (k : ℕ) (m : Machine) (fit :
   pub reduce_safe : (rs : List ℕ) (f sp n line : ℕ) (o : Op) (w : Width) (s : Shape) (ss : List Shape) →
       shape_at g sp f ≡ integer w → Numeric s → Through g t (g.marks k m.frame.pc) sp f (mode.Reduce o) n rs →
       To g t k (stacked (g.marks k m.frame.pc) ss) (suc m.frame.pc) →
-      Are x (pointer n ∷ s ∷ ss) m.frame.stack →
+      Are (over g x k m) (pointer n ∷ s ∷ ss) m.frame.stack →
       Safe g x t k (set (mode.Reduce o) rs f (width_of (kind_at g sp f)) line m)
   reduce_safe rs f sp n line o w s ss e ns r h a = safe_two g x t k m fit (pointer n) s ss m.frame.stack _ a
       ns (numeric_pointer n)

@@ -18,11 +18,12 @@ use Rattle.machine_terms.specs.Machine.{Machine, Stepped, stops, when, with_turn
 use Rattle.machine_terms.specs.Pointers.{region_in}
 use Rattle.machine_terms.specs.Calls.{take_values, yield_call, calling, call_task, call}
 use Rattle.machine_terms.specs.Opening.{with_points, need_on, needs_on, opening}
-use Rattle.fit_rules.specs.Shapes.{Shape, awaited, NumberIs, World, IsPartition, IsRegion, Is, is_anything, is_number, is_space, is_region, is_partition, is_cut, is_pending, Are, are_none, are_more, Origin, unknown, Each, ComesFrom, argument, own_root, own_as, part}
+use Rattle.fit_rules.specs.Shapes.{Shape, awaited, NumberIs, World, IsPartition, IsRegion, Is, is_anything, is_number, is_space, is_region, is_partition, is_cut, is_pending, Are, are_none, are_more, Origin, unknown, Each, ComesFrom, argument, own_root, own_as, part, child_at, held_at}
 use Rattle.fit_rules.specs.Marks.{Suits, stacked}
 use Rattle.fit_rules.specs.Fits.{Program, requires, claim_on, declared_claims, root_claims, own_claims, claims, AreClaims, no_claims, a_claim, PartsFit, Fits}
 use Rattle.fit_rules.specs.Sound.{Takes, Opens, To, Settled}
 use Rattle.fit_rules.specs.Ends.{grown, called, opening_machine, without_parts, Safe, safe_stops}
+use Rattle.fit_laws.proofs.Held.{over}
 use Rattle.fit_laws.proofs.Taking.{takes_values, takes_settled, all_there}
 use Rattle.fit_laws.proofs.Straight.{turned}
 
@@ -35,6 +36,8 @@ module _ (x : World) (s : Shape) where
   origin_grown own_root r c = c
   origin_grown (own_as i) r c = c
   origin_grown (part o) r c = (c.0, origin_grown o c.0 c.1, c.2)
+  origin_grown (child_at p d o) r c = (c.0, origin_grown o c.0 c.1, c.2, c.3)
+  origin_grown (held_at p o) r c = (origin_grown o r c.0, c.1)
 
   region_grown : (sp : Option ℕ) (o : Origin) (r : RegionValue) → IsRegion x sp o r → IsRegion (grown x s) sp o r
   region_grown sp o r i =
@@ -130,7 +133,7 @@ opening_fits g x k t vs turns depth h l there s = record {
 
 module _ (g : Program) (x : World) (t : TaskCode) (k : ℕ) (m : Machine) (fit : Fits g x t k m) where
   caller_fits : (task p : ℕ) (rest : List Shape) (st : List Value) → suc p ≡ m.frame.turns →
-      To g t k (stacked (g.marks k m.frame.pc) (awaited (g.results task) ∷ rest)) (suc m.frame.pc) → Are x rest st →
+      To g t k (stacked (g.marks k m.frame.pc) (awaited (g.results task) ∷ rest)) (suc m.frame.pc) → Are (over g x k m) rest st →
       Fits g (grown x (g.results task)) t k (without_parts (record m {
         frame = record m.frame {
           turns = p;
@@ -143,8 +146,8 @@ module _ (g : Program) (x : World) (t : TaskCode) (k : ℕ) (m : Machine) (fit :
     inside = to.0;
     suits = to.1 (grown x (g.results task)) m.frame.slots _ (record {
       slots = are_grown x (g.results task) _ m.frame.slots fit.suits.slots;
-      stack = are_more _ _ rest st (subst (λ c. Is (grown x (g.results task)) (awaited (g.results task)) (value.Pending c))
-          (sym fit.beside.children) (new_child x (g.results task))) (are_grown x (g.results task) rest st a);
+      stack = are_more _ _ rest st (subst (λ c. Is (grown (over g x k m) (g.results task)) (awaited (g.results task)) (value.Pending c))
+          (sym fit.beside.children) (new_child (over g x k m) (g.results task))) (are_grown (over g x k m) (g.results task) rest st a);
       facts = fit.suits.facts;
       top = tt;
       args = fit.suits.args;
@@ -170,7 +173,7 @@ module _ (g : Program) (x : World) (t : TaskCode) (k : ℕ) (m : Machine) (fit :
       slice_get g.code.tasks task ≡ Some callee → 0 < length callee.body →
       Opens g t (g.marks k m.frame.pc) task callee args → suc p ≡ m.frame.turns →
       To g t k (stacked (g.marks k m.frame.pc) (awaited (g.results task) ∷ rest)) (suc m.frame.pc) →
-      Each Settled args → Are x args ws → Are x rest st → Safe g x t k (yield_call task ws st (with_turns p m))
+      Each Settled args → Are (over g x k m) args ws → Are (over g x k m) rest st → Safe g x t k (yield_call task ws st (with_turns p m))
   issued task line p callee args rest ws st short there some o e to settled aw ar =
       let opens = o x m.frame.slots m.frame.stack ws fit.beside.roots fit.suits aw in
       subst (λ b. Safe g x t k (when b (when (nat_lt (suc m.frame.pc) (2 ^ 32)) (stops y next) (broken next)) (broken (with_turns p m))))
@@ -184,7 +187,7 @@ module _ (g : Program) (x : World) (t : TaskCode) (k : ℕ) (m : Machine) (fit :
             record {
               callee = callee;
               there = there;
-              opens = λ turns depth h. opening_fits g x task callee ws turns depth h some (all_there x args ws settled aw) opens.0;
+              opens = λ turns depth h. opening_fits g x task callee ws turns depth h some (all_there (over g x k m) args ws settled aw) opens.0;
               needed = opens.1;
               within = opens.2;
             },
@@ -213,7 +216,7 @@ module _ (g : Program) (x : World) (t : TaskCode) (k : ℕ) (m : Machine) (fit :
       To g t k (stacked (g.marks k m.frame.pc) (awaited (g.results task) ∷ rest)) (suc m.frame.pc) →
       Safe g x t k (call g.code task n line m)
   call_safe short task n line callee args rest there ep some tk o to =
-      let w = takes_values x n _ [] args rest m.frame.stack [] tk fit.suits.stack are_none in
+      let w = takes_values (over g x k m) n _ [] args rest m.frame.stack [] tk fit.suits.stack are_none in
       subst (λ c. Safe g x t k (call_task c task n line m)) (sym there)
       (subst (λ b. Safe g x t k (when b (calling task line (take_values n m.frame.stack []) m) (broken m)))
       (sym (eq-eqb callee.params n ep))

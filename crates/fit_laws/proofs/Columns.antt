@@ -26,6 +26,7 @@ use Rattle.fit_rules.specs.Marks.{LiesIn, Holds, lies, in_slot, top_parted, topp
 use Rattle.fit_rules.specs.Fits.{Program, Covers, Fits}
 use Rattle.fit_rules.specs.Sound.{HasRegion, HasPartition, Allowed, To}
 use Rattle.fit_rules.specs.Ends.{Safe, safe_stops}
+use Rattle.fit_laws.proofs.Held.{over}
 use Rattle.fit_laws.proofs.Cover.{Permits, read_reads, write_reads}
 use Rattle.fit_laws.proofs.Access.{FoundWell, missing_well, found_well, find_well, needed, wants_well}
 use Rattle.fit_laws.proofs.Fills.{points_had}
@@ -86,7 +87,7 @@ module _ (g : Program) (x : World) (t : TaskCode) (k : ℕ) (m : Machine) (fit :
       (needed g x t k m fit r.root.0 f p mode.Read (c p (inl refl))) c h
 
   pub by_field_safe : length t.body ≤ 2 ^ 32 → (s f line sp : ℕ) (ss : List Shape) →
-      Are x (space ∷ ss) m.frame.stack → Allowed g t (g.marks k m.frame.pc) sp f mode.Read s →
+      Are (over g x k m) (space ∷ ss) m.frame.stack → Allowed g t (g.marks k m.frame.pc) sp f mode.Read s →
       To g t k (topped (g.marks k m.frame.pc) (partition (Some sp) true ∷ ss) (top_parted s)) (suc m.frame.pc) →
       Safe g x t k (by_field s f line m)
   by_field_safe short s f line sp ss a h to = on_region_safe g x t k m fit (Some sp) s

@@ -1,5 +1,5 @@
 -- Each instruction with an effect is safe.
-use Rattle.std.proofs.Common.{◌≡◌, ℕ, suc, ◌<◌, pos, List, ◌∷◌, Bool, true, false, not, Option, Some, sym, ap, ◌∙◌, subst}
+use Rattle.std.proofs.Common.{◌≡◌, ℕ, suc, pos, List, ◌∷◌, Bool, true, false, not, Some, sym, subst}
 use Rattle.std.specs.Prelude.{slice_get}
 use Rattle.std.specs.Ordering.{int_eq}
 use Rattle.lane_kernels.specs.declared.numbers.Width.{Width}
@@ -16,15 +16,16 @@ use Rattle.task_code.specs.declared.instr.Instr.{Instr}
 use Rattle.machine_terms.specs.declared.value.Value.{Value}
 use Rattle.machine_terms.specs.Machine.{Machine, when, next, faults}
 use Rattle.machine_terms.specs.Numbers.{load, discard, arithmetic, comparison}
-use Rattle.machine_terms.specs.Pointers.{are_same, region_in}
+use Rattle.machine_terms.specs.Pointers.{are_same}
 use Rattle.machine_terms.specs.Segments.{act}
 use Rattle.code_rules.specs.Instructions.{computing, comparing}
-use Rattle.fit_rules.specs.Shapes.{Shape, integer, truth, pointer, region, numeric_pointer, World, Is, is_number, is_region, Are, are_more}
+use Rattle.fit_rules.specs.Shapes.{Is, IsPlain, Shape, integer, truth, pointer, numeric_pointer, World, Are, are_more}
 use Rattle.fit_rules.specs.Marks.{stacked}
 use Rattle.fit_rules.specs.Fits.{Program, Fits}
-use Rattle.fit_rules.specs.Sound.{Settled, Effect, does_num, does_load, does_drop, does_compute, does_compare, does_pointers_equal, does_pointers_differ, does_negate, does_wrap, does_invert, does_point, does_is_null, does_assert, does_move, does_element, does_read, does_write, does_reduce, does_fill, does_cast, does_cast_pointer, does_space, does_colors, does_child, does_print, To}
+use Rattle.fit_rules.specs.Sound.{Settled, Effect, does_num, does_load, does_load_as, does_drop, does_compute, does_compare, does_pointers_equal, does_pointers_differ, does_negate, does_wrap, does_invert, does_point, does_is_null, does_assert, does_move, does_element, does_read, does_write, does_reduce, does_fill, does_cast, does_cast_pointer, does_space, does_colors, does_child, does_print, To}
 use Rattle.fit_rules.specs.Ends.{Safe, safe_stops}
-use Rattle.fit_laws.proofs.Lookup.{any_region, value_at}
+use Rattle.fit_laws.proofs.Held.{over, plain_held}
+use Rattle.fit_laws.proofs.Lookup.{value_at}
 use Rattle.fit_laws.proofs.Numbers.{wrapped_fits, truth_is}
 use Rattle.fit_laws.proofs.Straight.{safe_next, safe_number, safe_two, pushed, loads, computed_safe, point_safe}
 use Rattle.fit_laws.proofs.Access.{read_safe, write_safe, reduce_safe}
@@ -34,18 +35,27 @@ use Rattle.fit_laws.proofs.Fills.{fill_safe}
 
 module _ (g : Program) (x : World) (t : TaskCode) (k : ℕ) (m : Machine) (fit : Fits g x t k m) where
   asserted : (b : Bool) (line : ℕ) (ss : List Shape) (st : List Value) →
-      To g t k (stacked (g.marks k m.frame.pc) ss) (suc m.frame.pc) → Are x ss st →
+      To g t k (stacked (g.marks k m.frame.pc) ss) (suc m.frame.pc) → Are (over g x k m) ss st →
       Safe g x t k (when b (faults AssertFailed line m) (next st m))
   asserted true line ss st to a = safe_stops _ _ (fit.beside.parts, tt)
   asserted false line ss st to a = safe_next g x t k m fit ss st to a
 
-  load_safe : (ss : List Shape) (i : ℕ) (s : Shape) → Settled s →
+  load_safe : (ss : List Shape) (i : ℕ) (s : Shape) → Settled s → IsPlain s →
       slice_get (g.marks k m.frame.pc).slots i ≡ Some s →
-      To g t k (stacked (g.marks k m.frame.pc) (s ∷ ss)) (suc m.frame.pc) → Are x ss m.frame.stack →
+      To g t k (stacked (g.marks k m.frame.pc) (s ∷ ss)) (suc m.frame.pc) → Are (over g x k m) ss m.frame.stack →
       Safe g x t k (load m (slice_get m.frame.slots i))
-  load_safe ss i s l e to a =
+  load_safe ss i s l p e to a =
       let v = value_at x _ _ i s fit.suits.slots e in
-      subst (λ o. Safe g x t k (load m o)) (sym v.at) (loads g x t k m fit s ss v.value l to v.of a)
+      subst (λ o. Safe g x t k (load m o)) (sym v.at) (loads g x t k m fit s ss v.value l to (plain_held x _ s v.value p v.of) a)
+
+  load_as_safe : (ss : List Shape) (i : ℕ) (a s : Shape) → Settled s →
+      ((v : Value) → slice_get m.frame.slots i ≡ Some v → Is (over g x k m) s v) →
+      slice_get (g.marks k m.frame.pc).slots i ≡ Some a →
+      To g t k (stacked (g.marks k m.frame.pc) (s ∷ ss)) (suc m.frame.pc) → Are (over g x k m) ss m.frame.stack →
+      Safe g x t k (load m (slice_get m.frame.slots i))
+  load_as_safe ss i b s l is e to a =
+      let v = value_at x _ _ i b fit.suits.slots e in
+      subst (λ o. Safe g x t k (load m o)) (sym v.at) (loads g x t k m fit s ss v.value l to (is v.value v.at) a)
 
   computes : (body : List Line) (o : Arithmetic) (w : Width) (line : ℕ) → Safe g x t k (arithmetic o w line m) →
       Safe g x t k (act g.code body (computing o w) line m)
@@ -66,13 +76,15 @@ module _ (g : Program) (x : World) (t : TaskCode) (k : ℕ) (m : Machine) (fit :
 
   pub effect_safe : (body : List Line) (i : Instr) (ss us : List Shape) (line : ℕ) →
       Effect g t (g.marks k m.frame.pc) i ss us →
-      To g t k (stacked (g.marks k m.frame.pc) us) (suc m.frame.pc) → Are x ss m.frame.stack →
+      To g t k (stacked (g.marks k m.frame.pc) us) (suc m.frame.pc) → Are (over g x k m) ss m.frame.stack →
       Safe g x t k (act g.code body i line m)
   effect_safe body _ _ _ line (does_num z s ss h) to a = pushed g x t k m fit s ss z _ to h a
-  effect_safe body _ _ _ line (does_load i s ss e l) to a = load_safe ss i s l e to a
+  effect_safe body _ _ _ line (does_load i s ss e l p) to a = load_safe ss i s l p e to a
+  effect_safe body _ _ _ line (does_load_as i b s ss e l h) to a =
+      load_as_safe ss i b s l (h x m.frame.slots m.frame.stack fit.suits) e to a
   effect_safe body _ _ _ line (does_drop s ss) to a = dropped _ a
     where
-      dropped : (st : List Value) → Are x (s ∷ ss) st → Safe g x t k (discard st m)
+      dropped : (st : List Value) → Are (over g x k m) (s ∷ ss) st → Safe g x t k (discard st m)
       dropped _ (are_more _ v _ st h b) = safe_next g x t k m fit ss st to b
   effect_safe body _ _ _ line (does_compute o w c d ss nc nd) to a =
       computes body o w line (safe_two g x t k m fit d c ss m.frame.stack _ a nc nd

@@ -12,7 +12,7 @@ use Rattle.task_code.specs.declared.code.Line.{Line}
 use Rattle.task_code.specs.declared.instr.Instr.{Instr}
 use Rattle.machine_terms.specs.Jumps.{fetch}
 use Rattle.fit_rules.specs.Example.{program, task, body, known, mark, marks, later}
-use Rattle.fit_rules.specs.Shapes.{Each, Shape, anything, integer, index, pointer, region, numeric_integer, numeric_index, numeric_pointer, argument, own_as}
+use Rattle.fit_rules.specs.Shapes.{IsPlain, Each, Shape, anything, integer, index, pointer, region, numeric_integer, numeric_index, numeric_pointer, argument, own_as}
 use Rattle.fit_rules.specs.Marks.{Mark, Stores}
 use Rattle.fit_rules.specs.Sound.{Through, settled_number, does_num, does_load, does_compute, does_element, does_read, does_write, does_space, Sound, straight, stored, makes_root, returns}
 use Rattle.fit_laws.specs.Example.{ExampleIsSound, ExampleEnds}
@@ -55,12 +55,12 @@ known_before : (s : ℕ) → 2 < s → Each (OfSlots (λ i. s ≡ i → ⊥)) kn
 known_before s l = ((λ e. omega (arith, e, l), λ e. omega (arith, e, l)), ((λ e. omega (arith, e, l), λ e. omega (arith, e, l)), tt))
 
 -- the fourth of five slots is another one, or the fifth
-stores_fourth : (element : Shape) (s : Shape) → Stores 3 (mark anything element (s ∷ [])) 3 (mark s element [])
-stores_fourth element s = stores_behind 3 (mark anything element (s ∷ [])) 3 s s [] refl (omega arith)
+stores_fourth : (element : Shape) (s : Shape) → IsPlain s → Stores 3 (mark anything element (s ∷ [])) 3 (mark s element [])
+stores_fourth element s p = stores_behind 3 (mark anything element (s ∷ [])) 3 s s [] refl (omega arith) (omega arith) p
     (λ vs v h. set_each vs 3 v known (known_before 3 (omega arith)) h) (λ x v h. h)
 
-stores_fifth : (own : Shape) (s : Shape) → Stores 3 (mark own anything (s ∷ [])) 4 (mark own s [])
-stores_fifth own s = stores_behind 3 (mark own anything (s ∷ [])) 4 s s [] refl (omega arith)
+stores_fifth : (own : Shape) (s : Shape) → IsPlain s → Stores 3 (mark own anything (s ∷ [])) 4 (mark own s [])
+stores_fifth own s p = stores_behind 3 (mark own anything (s ∷ [])) 4 s s [] refl (omega arith) (omega arith) p
     (λ vs v h. set_each vs 4 v known (known_before 4 (omega arith)) h) (λ x v h. h)
 
 -- ---- accesses
@@ -102,15 +102,15 @@ example_is_sound = record {
       (
         makes_root 0 3 _ [] refl refl (omega arith) (tt, (tt, (tt, (tt, (tt, tt))))) tt (omega arith, λ x vs st s. s),
         (
-          stored 3 _ [] refl (omega arith) (omega arith, stores_fourth anything (region (Some 0) (own_as 3))),
+          stored 3 _ [] refl (omega arith) (omega arith, stores_fourth anything (region (Some 0) (own_as 3)) tt),
           (
             straight _ _ (does_num (pos 1) index [] (omega (arith, ints))) (omega arith, λ x vs st s. s),
             (
               straight _ _ (does_element 1 (Some 0) index [] (record { origin = argument 1; shape = refl }) numeric_index) (omega arith, λ x vs st s. s),
               (
-                stored 4 _ [] refl (omega arith) (omega arith, stores_fifth (region (Some 0) (own_as 3)) (pointer 1)),
+                stored 4 _ [] refl (omega arith) (omega arith, stores_fifth (region (Some 0) (own_as 3)) (pointer 1) tt),
                 (
-                  straight _ _ (does_load 4 (pointer 1) [] refl (settled_number _ (numeric_pointer 1))) (omega arith, λ x vs st s. s),
+                  straight _ _ (does_load 4 (pointer 1) [] refl (settled_number _ (numeric_pointer 1)) tt) (omega arith, λ x vs st s. s),
                   (
                     straight _ _ (does_read (1 ∷ []) 0 0 1 [] (through (pointer 1 ∷ []) Read (reads_there _))) (omega arith, λ x vs st s. s),
                     (
@@ -118,7 +118,7 @@ example_is_sound = record {
                       (
                         straight _ _ (does_compute Add W32 (integer W32) (integer W32) [] (numeric_integer W32) (numeric_integer W32)) (omega arith, λ x vs st s. s),
                         (
-                          straight _ _ (does_load 4 (pointer 1) (integer W32 ∷ []) refl (settled_number _ (numeric_pointer 1))) (omega arith, λ x vs st s. s),
+                          straight _ _ (does_load 4 (pointer 1) (integer W32 ∷ []) refl (settled_number _ (numeric_pointer 1)) tt) (omega arith, λ x vs st s. s),
                           (
                             straight _ _ (does_write (1 ∷ []) 0 0 1 [] (through (pointer 1 ∷ integer W32 ∷ []) Write (writes_there _))) (omega arith, λ x vs st s. s),
                             (returns, tt),

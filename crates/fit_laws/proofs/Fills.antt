@@ -20,6 +20,7 @@ use Rattle.fit_rules.specs.Marks.{stacked}
 use Rattle.fit_rules.specs.Fits.{Program, kind_at, shape_at, Covers, CellNumber, Fits}
 use Rattle.fit_rules.specs.Sound.{Allowed, To}
 use Rattle.fit_rules.specs.Ends.{Safe, safe_stops}
+use Rattle.fit_laws.proofs.Held.{over}
 use Rattle.fit_laws.proofs.Numbers.{is_kept, kept_is, kept_numeric}
 use Rattle.fit_laws.proofs.Cover.{Permits, write_writes}
 use Rattle.fit_laws.proofs.Straight.{beside_moved, safe_next, safe_number}
@@ -70,7 +71,7 @@ module _ (g : Program) (x : World) (t : TaskCode) (k root f : ℕ) (z : ℤ) (ss
 
   filling : (xs : List ℕ) (m : Machine) → Fits g x t k m → NumberIs (shape_at g (x.spaces root) f) z →
       ((p : ℕ) → Among xs p → Covers g x t root f p mode.Write) →
-      To g t k (stacked (g.marks k m.frame.pc) ss) (suc m.frame.pc) → Are x ss st →
+      To g t k (stacked (g.marks k m.frame.pc) ss) (suc m.frame.pc) → Are (over g x k m) ss st →
       Safe g x t k (fill_points root f width z xs st m)
   filling [] m fit i c to a = safe_next g x t k m fit ss st to a
   filling (p ∷ xs) m fit i c to a = set_here m fit p _ (fill_points root f width z xs st)
@@ -80,7 +81,7 @@ module _ (g : Program) (x : World) (t : TaskCode) (k root f : ℕ) (z : ℤ) (ss
 
 module _ (g : Program) (x : World) (t : TaskCode) (k : ℕ) (m : Machine) (fit : Fits g x t k m) where
   pub fill_safe : (s f sp : ℕ) (ss : List Shape) → Allowed g t (g.marks k m.frame.pc) sp f mode.Write s →
-      To g t k (stacked (g.marks k m.frame.pc) ss) (suc m.frame.pc) → Are x (shape_at g sp f ∷ ss) m.frame.stack →
+      To g t k (stacked (g.marks k m.frame.pc) ss) (suc m.frame.pc) → Are (over g x k m) (shape_at g sp f ∷ ss) m.frame.stack →
       Safe g x t k (fill s f (width_of (kind_at g sp f)) m)
   fill_safe s f sp ss h to a =
       let r = region_at g x t k m fit (Some sp) h.origin s h.shape in

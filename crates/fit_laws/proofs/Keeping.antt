@@ -5,8 +5,9 @@ use Rattle.machine_terms.specs.declared.value.RegionValue.{RegionValue}
 use Rattle.machine_terms.specs.declared.value.Value.{Value}
 use Rattle.machine_terms.specs.Pointers.{region_in}
 use Rattle.machine_terms.specs.Regions.{partition_in}
-use Rattle.fit_rules.specs.Shapes.{Each, Shape, World, Is, Are, are_more}
-use Rattle.fit_rules.specs.Marks.{AtMost, Colour, the_colour, colour_in, any_colour, Fact, lies, apart, parted, counts, HasColour, HasNumber, Holds, IsAt, Mark, Spot, in_slot, child_in, size_in, Stores}
+use Rattle.fit_rules.specs.Shapes.{Each, HasPoint, IsPlain, Shape, World, Is, Are, are_more}
+use Rattle.fit_rules.specs.Marks.{AtMost, Colour, the_colour, colour_in, point_in, any_colour, Fact, lies, apart, parted, counts, HasColour, HasNumber, Holds, IsAt, Mark, Spot, in_slot, child_in, size_in, around, Stores}
+use Rattle.fit_laws.proofs.Held.{plain_held, still_held}
 use Rattle.fit_laws.proofs.Lookup.{set_at}
 
 -- ---- slots that are set
@@ -29,6 +30,7 @@ get_other (x ∷ xs) (suc i) (suc j) a n = get_other xs i j a (λ e. n (ap suc e
 abbrev OfColour : (ℕ → Type 0) → Colour → Type 0
 OfColour P (the_colour z) = Unit {0}
 OfColour P (colour_in i) = P i
+OfColour P (point_in i) = P i
 OfColour P any_colour = Unit {0}
 
 abbrev OfSpot : (ℕ → Type 0) → Spot → Type 0
@@ -46,6 +48,7 @@ module _ (P Q : ℕ → Type 0) (h : (i : ℕ) → P i → Q i) where
   colour_so : (c : Colour) → OfColour P c → OfColour Q c
   colour_so (the_colour z) o = tt
   colour_so (colour_in i) o = h i o
+  colour_so (point_in i) o = h i o
   colour_so any_colour o = tt
 
   spot_so : (a : Spot) → OfSpot P a → OfSpot Q a
@@ -67,11 +70,13 @@ module _ (vs us : List Value) where
   colour_there : (c : Colour) (z : ℤ) → OfColour Same c → HasColour vs c z → HasColour us c z
   colour_there (the_colour y) z o h = h
   colour_there (colour_in i) z o h = subst (HasNumber z) (sym o) h
+  colour_there (point_in i) z o h = subst (HasPoint z) (sym o) h
   colour_there any_colour z o h = h
 
   colour_back : (c : Colour) (z : ℤ) → OfColour Same c → HasColour us c z → HasColour vs c z
   colour_back (the_colour y) z o h = h
   colour_back (colour_in i) z o h = subst (HasNumber z) o h
+  colour_back (point_in i) z o h = subst (HasPoint z) o h
   colour_back any_colour z o h = h
 
   spot_there : (a : Spot) (r : RegionValue) → OfSpot Same a → IsAt vs a r → IsAt us a r
@@ -125,13 +130,14 @@ are_others x _ _ _ _ (are_more a v us st h b) = b
 abbrev pub set_mark : Mark → ℕ → Shape → List Shape → Mark
 set_mark m s b us = record m { slots = slice_set m.slots s b; stack = us; top = [] }
 
-pub stores_behind : (params : ℕ) (m : Mark) (s : ℕ) (a b : Shape) (us : List Shape) → m.stack ≡ a ∷ us → params ≤ s →
+pub stores_behind : (params : ℕ) (m : Mark) (s : ℕ) (a b : Shape) (us : List Shape) → m.stack ≡ a ∷ us → params ≤ s → m.fixed ≤ s → IsPlain b →
     ((vs : List Value) (v : Value) → Each (λ k. Holds k vs) m.facts → Each (λ k. Holds k (slice_set vs s v)) m.facts) →
     ((x : World) (v : Value) → Is x a v → Is x b v) → Stores params m s (set_mark m s b us)
-stores_behind params m s a b us e l kept h x vs st v q =
-    let stack = subst (λ y. Are x y (v ∷ st)) e q.stack in record {
-      slots = set_at x m.slots vs s b v q.slots (h x v (are_first x a us v st stack));
-      stack = are_others x a us v st stack;
+stores_behind params m s a b us e l low plain kept h x vs st v q =
+    let z = around x m vs in
+    let stack = subst (λ y. Are z y (v ∷ st)) e q.stack in record {
+      slots = set_at x m.slots vs s b v q.slots (plain_held z x.held b v plain (h z v (are_first z a us v st stack)));
+      stack = still_held x m.fixed vs s v us st low (are_others z a us v st stack);
       facts = kept vs v q.facts;
       top = tt;
       args = λ i o. ap region_in (get_other vs s i v (λ d. omega (arith, d, o, l))) ∙ q.args i o;

@@ -1,4 +1,6 @@
 pub mod Lookup
+pub mod Held
+pub mod Apart
 pub mod Keeping
 pub mod Numbers
 pub mod Straight

@@ -1,11 +1,10 @@
 -- Values of shapes: the one at a place, and one put there.
-use Rattle.std.proofs.Common.{◌≡◌, inl, inr, ℕ, zero, suc, Bool, false, List, [], ◌∷◌, Option, Some, refl, ap, subst}
-use Rattle.std.proofs.lemmas.Bool.{false≢true}
+use Rattle.std.proofs.Common.{◌≡◌, inl, inr, ℕ, zero, suc, List, [], ◌∷◌, Option, Some, refl, ap, subst}
 use Rattle.std.proofs.lemmas.Option.{none-some, same_Some}
 use Rattle.std.specs.Prelude.{slice_get, slice_set, length}
 use Rattle.machine_terms.specs.declared.value.RegionValue.{RegionValue}
 use Rattle.machine_terms.specs.declared.value.Value.{Value}
-use Rattle.fit_rules.specs.Shapes.{Among, Each, Shape, World, Is, IsRegion, Are, are_none, are_more, Origin, unknown, ComesFrom, IsWhole, own_as, argument, own_root, part}
+use Rattle.fit_rules.specs.Shapes.{Among, Each, Shape, World, Is, IsRegion, Are, are_none, are_more, Origin, unknown, ComesFrom, IsWhole, own_as, argument, own_root, part, child_at, held_at}
 
 -- each of some holds of one of them
 pub each_among : {A : Type 0} (P : A → Type 0) (xs : List A) (a : A) → Among xs a → Each P xs → P a
@@ -29,6 +28,8 @@ whole_of x (own_as i) r h c = c.0
 whole_of x unknown r h c = absurd h
 whole_of x (argument i) r h c = absurd h
 whole_of x (part o) r h c = absurd h
+whole_of x (child_at p d o) r h c = absurd h
+whole_of x (held_at s o) r h c = absurd h
 
 pub record Found (x : World) (s : Shape) (vs : List Value) (i : ℕ) : Type 0 where
   pub value : Value

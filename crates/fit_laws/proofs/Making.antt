@@ -31,6 +31,7 @@ use Rattle.fit_rules.specs.Fits.{Program, Fits}
 use Rattle.fit_rules.specs.Sound.{HasRegion, HasPartition, To}
 use Rattle.fit_rules.specs.Ends.{SetsFit, IsMadeOf, Safe, safe_stops}
 use Rattle.fit_rules.proofs.Points.{has_below}
+use Rattle.fit_laws.proofs.Held.{over}
 use Rattle.fit_laws.proofs.Straight.{fits_topped}
 use Rattle.fit_laws.proofs.Access.{region_at}
 use Rattle.fit_laws.proofs.Pointers.{partition_at}
@@ -88,7 +89,7 @@ module _ (g : Program) (x : World) (t : TaskCode) (k : ℕ) (m : Machine) (fit :
   made_fits : (s : ℕ) (sp : Option ℕ) (d flag : Bool) (c : Origin) (r : RegionValue) (sets : List (List ℕ)) (ss : List Shape)
       (st : List Value) → region_slot m s ≡ Some r → IsRegion x sp c r → (d ≡ true → flag ≡ true) →
       SetsFit r.points flag sets → To g t k (topped (g.marks k m.frame.pc) (partition sp d ∷ ss) (top_parted s)) (suc m.frame.pc) →
-      Are x ss st → (q : PartitionValue) → IsMadeOf r.root.0 flag sets q →
+      Are (over g x k m) ss st → (q : PartitionValue) → IsMadeOf r.root.0 flag sets q →
       Fits g x t k (at (suc m.frame.pc) (value.Partition q ∷ st) m)
   made_fits s sp d flag c r sets ss st er ir fl sf to a q h =
       let part : (y : RegionValue) → Among q.children y → IsPartOf r.points y.points =
@@ -125,7 +126,7 @@ module _ (g : Program) (x : World) (t : TaskCode) (k : ℕ) (m : Machine) (fit :
       (sets : List (List ℕ)) (ss : List Shape) (st : List Value) → region_slot m s ≡ Some r → IsRegion x sp c r →
       (d ≡ true → flag ≡ true) → SetsFit r.points flag sets →
       To g t k (topped (g.marks k m.frame.pc) (partition sp d ∷ ss) (top_parted s)) (suc m.frame.pc) →
-      Are x ss st → Safe g x t k (makes r sets flag st m)
+      Are (over g x k m) ss st → Safe g x t k (makes r sets flag st m)
   partition_safe short s sp d flag c r sets ss st er ir fl sf to a =
       subst (λ b. Safe g x t k (when b (stops (yield.Make (made.Partition r sets flag)) (at (suc m.frame.pc) st m))
       (broken (at (suc m.frame.pc) st m)))) (sym (lt-ltb (suc m.frame.pc) (2 ^ 32) (omega (arith, to.0, short))))
@@ -166,15 +167,15 @@ module _ (g : Program) (x : World) (t : TaskCode) (k : ℕ) (m : Machine) (fit :
   sized true line a h = h refl
   sized false line a h = safe_stops _ _ (fit.beside.parts, tt)
 
-  pub equal_on : (st : List Value) (ss : List Shape) (line : ℕ) (more : ℕ → List Value → Stepped) → Are x (space ∷ ss) st →
-      ((n : ℕ) (rest : List Value) → n ≤ 65536 → Are x ss rest → Safe g x t k (more n rest)) →
+  pub equal_on : (st : List Value) (ss : List Shape) (line : ℕ) (more : ℕ → List Value → Stepped) → Are (over g x k m) (space ∷ ss) st →
+      ((n : ℕ) (rest : List Value) → n ≤ 65536 → Are (over g x k m) ss rest → Safe g x t k (more n rest)) →
       Safe g x t k (on_space st m (λ n rest. when (nat_le n 65536) (more n rest) (faults BadSize line m)))
   equal_on _ ss line more (are_more _ _ _ st (is_space n h) b) f =
       sized (nat_le n 65536) line (more n st) (λ e. f n st (leb-true n 65536 e) b)
   equal_on _ ss line more (are_more _ _ _ st (is_number _ z h) b) f = absurd h
 
   pub equal_safe : length t.body ≤ 2 ^ 32 → (s line : ℕ) (sp : Option ℕ) (ss : List Shape) →
-      Are x (space ∷ ss) m.frame.stack → HasRegion (g.marks k m.frame.pc) sp s →
+      Are (over g x k m) (space ∷ ss) m.frame.stack → HasRegion (g.marks k m.frame.pc) sp s →
       To g t k (topped (g.marks k m.frame.pc) (partition sp true ∷ ss) (top_parted s)) (suc m.frame.pc) →
       Safe g x t k (equal s line m)
   equal_safe short s line sp ss a h to = on_region_safe sp s

@@ -20,6 +20,7 @@ use Rattle.fit_rules.specs.Marks.{stacked}
 use Rattle.fit_rules.specs.Fits.{Program, Fits}
 use Rattle.fit_rules.specs.Sound.{To, HasRegion, HasPartition}
 use Rattle.fit_rules.specs.Ends.{Safe, safe_stops}
+use Rattle.fit_laws.proofs.Held.{over, region_held}
 use Rattle.fit_laws.proofs.Lookup.{value_at}
 use Rattle.fit_rules.proofs.Points.{has_below}
 use Rattle.fit_laws.proofs.Numbers.{point_below}
@@ -61,7 +62,7 @@ module _ (g : Program) (x : World) (t : TaskCode) (k : ℕ) (m : Machine) (fit :
   -- ---- moves
 
   move_target : (js : List ℕ) (n l : ℕ) (ss : List Shape) (to : Target) (st : List Value) → n ≤ length js →
-      Each (λ j. j ≤ l) js → l < 2 ^ 31 → Next (pointer l ∷ ss) → Are x ss st → position_of to ≤ n →
+      Each (λ j. j ≤ l) js → l < 2 ^ 31 → Next (pointer l ∷ ss) → Are (over g x k m) ss st → position_of to ≤ n →
       ((p i : ℕ) → to ≡ point_target p i → p < 2 ^ 32) → Safe g x t k (move js to st m)
   move_target js n l ss null_target st h e s to a i b = pushed g x t k m fit (pointer l) ss _ st to (null_is l) a
   move_target js n l ss (point_target p zero) st h e s to a i b = pushed g x t k m fit (pointer l) ss _ st to
@@ -76,7 +77,7 @@ module _ (g : Program) (x : World) (t : TaskCode) (k : ℕ) (m : Machine) (fit :
   point_number (negsuc n) p i e = omega (arith, subst (λ y. y ≤ 0) (ap number e) (omega arith))
 
   pub move_safe : (js : List ℕ) (n l : ℕ) (ss : List Shape) (z : ℤ) (st : List Value) → n ≤ length js →
-      Each (λ j. j ≤ l) js → l < 2 ^ 31 → Next (pointer l ∷ ss) → Are x ss st → NumberIs (pointer n) z →
+      Each (λ j. j ≤ l) js → l < 2 ^ 31 → Next (pointer l ∷ ss) → Are (over g x k m) ss st → NumberIs (pointer n) z →
       Safe g x t k (move js (target_kept z) st m)
   move_safe js n l ss z st h e s to a i =
       move_target js n l ss (target_kept z) st h e s to a i.1 (point_number z)
@@ -88,7 +89,7 @@ module _ (g : Program) (x : World) (t : TaskCode) (k : ℕ) (m : Machine) (fit :
   region_point r sp o n i e = omega (arith, has_below 4194304 r.points n i.set.below e)
 
   element_held : (sp : Option ℕ) (o : Origin) (r : RegionValue) (z : ℤ) (line : ℕ) (ss : List Shape) (st : List Value) →
-      IsRegion x sp o r → Next (pointer 1 ∷ ss) → Are x ss st → Safe g x t k (element (Some r) z line st m)
+      IsRegion x sp o r → Next (pointer 1 ∷ ss) → Are (over g x k m) ss st → Safe g x t k (element (Some r) z line st m)
   element_held sp o r (negsuc n) line ss st i to a = safe_stops _ _ (fit.beside.parts, tt)
   element_held sp o r (pos n) line ss st i to a = tested (has r.points n) refl
     where
@@ -100,7 +101,7 @@ module _ (g : Program) (x : World) (t : TaskCode) (k : ℕ) (m : Machine) (fit :
       tested false e = safe_stops _ _ (fit.beside.parts, tt)
 
   pub element_safe : (s : ℕ) (sp : Option ℕ) (z : ℤ) (line : ℕ) (ss : List Shape) (st : List Value) →
-      HasRegion (g.marks k m.frame.pc) sp s → Next (pointer 1 ∷ ss) → Are x ss st →
+      HasRegion (g.marks k m.frame.pc) sp s → Next (pointer 1 ∷ ss) → Are (over g x k m) ss st →
       Safe g x t k (element (region_slot m s) z line st m)
   element_safe s sp z line ss st h to a =
       let r = region_at g x t k m fit sp h.origin s h.shape in
@@ -145,7 +146,7 @@ module _ (g : Program) (x : World) (t : TaskCode) (k : ℕ) (m : Machine) (fit :
 
   pub cast_safe : (sp : Option ℕ) (rs : List ℕ) (z : ℤ) (ss : List Shape) (st : List Value) →
       Each (HasRegion (g.marks k m.frame.pc) sp) rs → length rs < 2 ^ 31 → Next (pointer (length rs) ∷ ss) →
-      Are x ss st → Safe g x t k (cast (regions_in m.frame.slots rs) z st m)
+      Are (over g x k m) ss st → Safe g x t k (cast (regions_in m.frame.slots rs) z st m)
   cast_safe sp rs z ss st h l to a =
       let w = regions_at sp rs h in
       subst (λ o. Safe g x t k (cast o z st m)) (sym w.there)
@@ -153,7 +154,7 @@ module _ (g : Program) (x : World) (t : TaskCode) (k : ℕ) (m : Machine) (fit :
       (holding_is 0 (length rs) w.regions z w.are_small (omega (arith, w.long)) l) a)
 
   cast_target : (n : ℕ) (rs : List Region) (to : Target) (ss : List Shape) (st : List Value) → AreSmall rs →
-      length rs ≤ n → n < 2 ^ 31 → Next (pointer n ∷ ss) → Are x ss st →
+      length rs ≤ n → n < 2 ^ 31 → Next (pointer n ∷ ss) → Are (over g x k m) ss st →
       Safe g x t k (cast_pointer (Some rs) to st m)
   cast_target n rs null_target ss st h e l to a = pushed g x t k m fit (pointer n) ss _ st to (null_is n) a
   cast_target n rs (point_target p i) ss st h e l to a = pushed g x t k m fit (pointer n) ss _ st to
@@ -161,7 +162,7 @@ module _ (g : Program) (x : World) (t : TaskCode) (k : ℕ) (m : Machine) (fit :
 
   pub cast_pointer_safe : (sp : Option ℕ) (rs : List ℕ) (to : Target) (ss : List Shape) (st : List Value) →
       Each (HasRegion (g.marks k m.frame.pc) sp) rs → length rs < 2 ^ 31 → Next (pointer (length rs) ∷ ss) →
-      Are x ss st → Safe g x t k (cast_pointer (regions_in m.frame.slots rs) to st m)
+      Are (over g x k m) ss st → Safe g x t k (cast_pointer (regions_in m.frame.slots rs) to st m)
   cast_pointer_safe sp rs to ss st h l nx a =
       let w = regions_at sp rs h in
       subst (λ o. Safe g x t k (cast_pointer o to st m)) (sym w.there)
@@ -169,7 +170,7 @@ module _ (g : Program) (x : World) (t : TaskCode) (k : ℕ) (m : Machine) (fit :
 
   -- ---- index spaces
 
-  pub space_safe : (z : ℤ) (line : ℕ) (ss : List Shape) (st : List Value) → Next (space ∷ ss) → Are x ss st →
+  pub space_safe : (z : ℤ) (line : ℕ) (ss : List Shape) (st : List Value) → Next (space ∷ ss) → Are (over g x k m) ss st →
       Safe g x t k (space_code z line st m)
   space_safe (negsuc n) line ss st to a = safe_stops _ _ (fit.beside.parts, tt)
   space_safe (pos n) line ss st to a = tested (nat_le n 4194304) refl
@@ -197,7 +198,7 @@ module _ (g : Program) (x : World) (t : TaskCode) (k : ℕ) (m : Machine) (fit :
       of_value _ e (is_number _ z h) = absurd h
 
   pub colors_safe : (s : ℕ) (sp : Option ℕ) (ss : List Shape) → HasPartition (g.marks k m.frame.pc) sp s →
-      Next (space ∷ ss) → Are x ss m.frame.stack → Safe g x t k (colors s m)
+      Next (space ∷ ss) → Are (over g x k m) ss m.frame.stack → Safe g x t k (colors s m)
   colors_safe s sp ss h to a =
       let q = partition_at sp s h in
       subst (λ o. Safe g x t k (with_partition o m (λ p. when (nat_le (length p.children) 4194304)
@@ -208,15 +209,15 @@ module _ (g : Program) (x : World) (t : TaskCode) (k : ℕ) (m : Machine) (fit :
       (are_more space _ ss _ (is_space _ q.is_partition_there.count) a)))
 
   child_found : (sp : Option ℕ) (o : Option RegionValue) (line : ℕ) (ss : List Shape) (st : List Value) →
-      ((r : RegionValue) → o ≡ Some r → IsRegion x sp unknown r) → Next (region sp unknown ∷ ss) → Are x ss st →
+      ((r : RegionValue) → o ≡ Some r → IsRegion x sp unknown r) → Next (region sp unknown ∷ ss) → Are (over g x k m) ss st →
       Safe g x t k (child_at o line st m)
   child_found sp None line ss st h to a = safe_stops _ _ (fit.beside.parts, tt)
   child_found sp (Some r) line ss st h to a = safe_next g x t k m fit (region sp unknown ∷ ss) _ to
-      (are_more _ _ ss st (is_region sp unknown r (h r refl)) a)
+      (are_more _ _ ss st (is_region sp unknown r (region_held x _ sp unknown r tt (h r refl))) a)
 
   pub child_safe : (s line : ℕ) (sp : Option ℕ) (b : Shape) (ss : List Shape) →
       HasPartition (g.marks k m.frame.pc) sp s → Numeric b → Next (region sp unknown ∷ ss) →
-      Are x (b ∷ ss) m.frame.stack → Safe g x t k (child s line m)
+      Are (over g x k m) (b ∷ ss) m.frame.stack → Safe g x t k (child s line m)
   child_safe s line sp b ss h n to a =
       let q = partition_at sp s h in
       subst (λ o. Safe g x t k (with_partition o m (λ p.

@@ -21,12 +21,13 @@ use Rattle.machine_terms.specs.declared.value.Value.TheVariants as value
 use Rattle.machine_terms.specs.Machine.{Machine, stops, when, at, broken}
 use Rattle.machine_terms.specs.Parts.{cell_at}
 use Rattle.machine_terms.specs.Regions.{on_space, root_of_space, new_root}
-use Rattle.fit_rules.specs.Shapes.{Among, OfSpace, Shape, space, region, World, IsRegion, Is, is_anything, is_number, is_space, is_region, is_partition, is_cut, is_pending, IsPartition, Are, are_none, are_more, IsWhole, Origin, Each, KnowsRoots, ComesFrom, unknown, own_as, argument, own_root, part}
+use Rattle.fit_rules.specs.Shapes.{Among, OfSpace, Shape, space, region, World, IsRegion, Is, is_anything, is_number, is_space, is_region, is_partition, is_cut, is_pending, IsPartition, Are, are_none, are_more, IsWhole, Origin, Each, KnowsRoots, ComesFrom, unknown, own_as, argument, own_root, part, child_at, held_at}
 use Rattle.fit_rules.specs.Marks.{stacked}
 use Rattle.fit_rules.specs.Fits.{Program, count_at, kind_at, shape_at, root_claims, requires, declared_claims, own_claims, claims, AreClaims, no_claims, a_claim, CellFits, PartsFit, Fits}
 use Rattle.fit_rules.specs.Sound.{To, IsOther}
 use Rattle.fit_rules.specs.Ends.{rooted, with_root, Safe, safe_stops}
 use Rattle.fit_rules.proofs.Points.{counted_points}
+use Rattle.fit_laws.proofs.Held.{over}
 use Rattle.fit_laws.proofs.Cover.{in_front, in_back}
 use Rattle.std.proofs.lemmas.Option.{same_Some}
 
@@ -63,6 +64,8 @@ module _ (x : World) (i root sp n : ℕ) (fresh : x.there root ≡ false) where
   origin_rooted s own_root r h there c = whole_rooted r there c
   origin_rooted s (own_as j) r h there c = (whole_rooted r there c.0, same_last j (λ e. h (sym e)) ∙ c.1)
   origin_rooted s (part o) r h there c = (c.0, origin_rooted s o c.0 h (ap x.there (sym c.2.0) ∙ there) c.1, c.2)
+  origin_rooted s (child_at p d o) r h there c = (c.0, origin_rooted s o c.0 h (ap x.there (sym c.2.0) ∙ there) c.1, c.2, c.3)
+  origin_rooted s (held_at p o) r h there c = (origin_rooted s o r h there c.0, c.1)
 
   region_rooted : (s : Option ℕ) (o : Origin) (r : RegionValue) → IsOther i (region s o) → IsRegion x s o r →
       IsRegion (rooted x i root sp n) s o r
@@ -212,7 +215,7 @@ numbers_both (y ∷ xs) i = ap (λ l. y.0 ∷ l) (numbers_both xs i)
 
 module _ (g : Program) (x : World) (t : TaskCode) (k : ℕ) (m : Machine) (fit : Fits g x t k m) where
   root_fits : (i sp n : ℕ) (ss : List Shape) (st : List Value) → n ≤ 4194304 → Each (IsOther i) (g.marks k m.frame.pc).slots →
-      Each (IsOther i) ss → To g t k (stacked (g.marks k m.frame.pc) (region (Some sp) (own_as i) ∷ ss)) (suc m.frame.pc) → Are x ss st →
+      Each (IsOther i) ss → To g t k (stacked (g.marks k m.frame.pc) (region (Some sp) (own_as i) ∷ ss)) (suc m.frame.pc) → Are (over g x k m) ss st →
       (r : RegionValue) (ns : List Need) → x.there r.root.0 ≡ false → r.points ≡ points n →
       IsPoints 4194304 (points n) →
       AreClaims ns (root_claims g r.root.0 sp (points n)) →
@@ -237,7 +240,7 @@ module _ (g : Program) (x : World) (t : TaskCode) (k : ℕ) (m : Machine) (fit :
               ),
               ap (λ b. cond b (Some r.root.0) (x.last i)) (eq-eqb i i refl),
             );
-          })) (are_rooted x i r.root.0 sp n fresh ss st oss a);
+          })) (are_rooted (over g x k m) i r.root.0 sp n fresh ss st oss a);
           facts = fit.suits.facts;
           top = tt;
           args = fit.suits.args;
@@ -255,13 +258,13 @@ module _ (g : Program) (x : World) (t : TaskCode) (k : ℕ) (m : Machine) (fit :
       }
 
   pub new_root_safe : length t.body ≤ 2 ^ 32 → (sp i : ℕ) (c : SpaceCode) (ss : List Shape) →
-      Are x (space ∷ ss) m.frame.stack → slice_get g.code.spaces sp ≡ Some c → length c.fields ≤ 256 →
+      Are (over g x k m) (space ∷ ss) m.frame.stack → slice_get g.code.spaces sp ≡ Some c → length c.fields ≤ 256 →
       Each (IsOther i) (g.marks k m.frame.pc).slots → Each (IsOther i) ss →
       To g t k (stacked (g.marks k m.frame.pc) (region (Some sp) (own_as i) ∷ ss)) (suc m.frame.pc) →
       Safe g x t k (new_root g.code sp m)
   new_root_safe short sp i c ss a e l os oss to = of_stack m.frame.stack a
     where
-      of_stack : (st : List Value) → Are x (space ∷ ss) st →
+      of_stack : (st : List Value) → Are (over g x k m) (space ∷ ss) st →
           Safe g x t k (on_space st m (λ size st. root_of_space (slice_get g.code.spaces sp) sp size st m))
       of_stack _ (are_more _ _ _ st (is_number _ z h) b) = absurd h
       of_stack _ (are_more _ _ _ st (is_space n h) b) =

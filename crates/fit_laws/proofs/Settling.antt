@@ -1,7 +1,8 @@
 -- A mark that a frame suits it suits also once a child's value stands in the slots that wait for it, where each
 -- colour that a fact names is a number already.
 use Rattle.std.proofs.Common.{◌≡◌, ℕ, ℤ, List, [], ◌∷◌, map, option_map, Bool, true, false, cond, Option, Some, None, refl, sym, ap, ◌∙◌, subst}
-use Rattle.std.specs.Prelude.{slice_get, ◌==◌}
+use Rattle.std.specs.Prelude.{slice_get, take, ◌==◌}
+use Rattle.std.specs.List.{take-map}
 use Rattle.std.proofs.lemmas.Bool.{eqb-true}
 use Rattle.std.proofs.lemmas.Option.{slice_get-map}
 use Rattle.machine_terms.specs.declared.value.RegionValue.{RegionValue}
@@ -11,8 +12,9 @@ use Rattle.machine_terms.specs.declared.value.Value.TheVariants as value
 use Rattle.machine_terms.specs.Orders.{settled}
 use Rattle.machine_terms.specs.Pointers.{region_in}
 use Rattle.machine_terms.specs.Regions.{partition_in}
-use Rattle.fit_rules.specs.Shapes.{Each, Shape, awaited, Numeric, numeric_integer, numeric_truth, numeric_index, numeric_pointer, NumberIs, World, Is, is_anything, is_number, is_space, is_region, is_partition, is_cut, is_pending, Are, are_none, are_more}
-use Rattle.fit_rules.specs.Marks.{Colour, the_colour, colour_in, any_colour, Spot, in_slot, child_in, Fact, lies, apart, parted, counts, HasNumber, HasColour, IsAt, LiesAt, IsParted, AtMost, size_in, Holds, TopFact, top_colour, top_lies, top_parted, HoldsTop, Mark, Suits, IsStanding, SpotStands, ColoursStand}
+use Rattle.fit_rules.specs.Shapes.{Each, HasPoint, IsChild, Shape, awaited, Numeric, numeric_integer, numeric_truth, numeric_index, numeric_pointer, NumberIs, World, Is, is_anything, is_number, is_space, is_region, is_partition, is_cut, is_pending, Are, are_none, are_more}
+use Rattle.fit_rules.specs.Marks.{Colour, the_colour, colour_in, point_in, any_colour, Spot, in_slot, child_in, Fact, lies, apart, parted, counts, HasNumber, HasColour, IsAt, LiesAt, IsParted, AtMost, size_in, Holds, TopFact, top_colour, top_at, top_parted, HoldsTop, Mark, Suits, around, IsStanding, SpotStands, ColoursStand}
+use Rattle.fit_laws.proofs.Held.{are_held}
 use Rattle.fit_laws.proofs.Lookup.{value_at}
 
 module _ (x : World) (i : ℕ) (z : ℤ) (h : NumberIs (x.results i) z) where
@@ -77,9 +79,18 @@ module _ (i : ℕ) (z : ℤ) (vs : List Value) where
   number_kept y (Some (value.Partition q)) h = absurd h
   number_kept y (Some (value.Pending j)) h = absurd h
 
+  point_kept : (y : ℤ) (o : Option Value) → HasPoint y o → HasPoint y (option_map (settled i z) o)
+  point_kept y (Some (value.Number w)) h = h
+  point_kept y None h = absurd h
+  point_kept y (Some (value.Space n)) h = absurd h
+  point_kept y (Some (value.Region r)) h = absurd h
+  point_kept y (Some (value.Partition q)) h = absurd h
+  point_kept y (Some (value.Pending j)) h = absurd h
+
   colour_kept : (c : Colour) (y : ℤ) → HasColour vs c y → HasColour us c y
   colour_kept (the_colour w) y h = h
   colour_kept (colour_in s) y h = subst (HasNumber y) (sym (at s)) (number_kept y (slice_get vs s) h)
+  colour_kept (point_in s) y h = subst (HasPoint y) (sym (at s)) (point_kept y (slice_get vs s) h)
   colour_kept any_colour y h = h
 
   spot_kept : (a : Spot) (r : RegionValue) → IsAt vs a r → IsAt us a r
@@ -131,6 +142,9 @@ module _ (i : ℕ) (z : ℤ) (vs : List Value) where
     colour_was (colour_in s) y st h =
         let v = value_at x ss vs s st.0 are st.1 in
         subst (HasNumber y) (same_number s st.0 v.value st.2 v.of v.at) h
+    colour_was (point_in s) y st h =
+        let v = value_at x ss vs s st.0 are st.1 in
+        subst (HasPoint y) (same_number s st.0 v.value st.2 v.of v.at) h
     colour_was any_colour y st h = h
 
     spot_was : (a : Spot) (r : RegionValue) → SpotStands ss a → IsAt us a r → IsAt vs a r
@@ -158,18 +172,18 @@ module _ (i : ℕ) (z : ℤ) (vs : List Value) where
 
   top_kept : (k : TopFact) (st : List Value) → HoldsTop k vs st → HoldsTop k us st
   top_kept (top_colour c) (value.Number y ∷ st) h = colour_kept c y h
-  top_kept (top_lies b) (value.Region r ∷ st) h = lies_kept r b h
+  top_kept (top_at b) (value.Region r ∷ st) h = spot_kept b r h
   top_kept (top_parted s) (value.Partition q ∷ st) h = parted_kept q s h
   top_kept (top_colour c) [] h = absurd h
   top_kept (top_colour c) (value.Space _ ∷ st) h = absurd h
   top_kept (top_colour c) (value.Region _ ∷ st) h = absurd h
   top_kept (top_colour c) (value.Partition _ ∷ st) h = absurd h
   top_kept (top_colour c) (value.Pending _ ∷ st) h = absurd h
-  top_kept (top_lies b) [] h = absurd h
-  top_kept (top_lies b) (value.Number _ ∷ st) h = absurd h
-  top_kept (top_lies b) (value.Space _ ∷ st) h = absurd h
-  top_kept (top_lies b) (value.Partition _ ∷ st) h = absurd h
-  top_kept (top_lies b) (value.Pending _ ∷ st) h = absurd h
+  top_kept (top_at b) [] h = absurd h
+  top_kept (top_at b) (value.Number _ ∷ st) h = absurd h
+  top_kept (top_at b) (value.Space _ ∷ st) h = absurd h
+  top_kept (top_at b) (value.Partition _ ∷ st) h = absurd h
+  top_kept (top_at b) (value.Pending _ ∷ st) h = absurd h
   top_kept (top_parted s) [] h = absurd h
   top_kept (top_parted s) (value.Number _ ∷ st) h = absurd h
   top_kept (top_parted s) (value.Space _ ∷ st) h = absurd h
@@ -188,7 +202,9 @@ Settles params m = (x : World) (vs st : List Value) (i : ℕ) (z : ℤ) → Suit
 pub settles : (params : ℕ) (m : Mark) → Each (ColoursStand m.slots) m.facts → Settles params m
 settles params m stands x vs st i z s h = record {
   slots = settled_are x i z h m.slots vs s.slots;
-  stack = s.stack;
+  stack = are_held (around x m vs) (take m.fixed (map (settled i z) vs)) (λ p c r h. subst (λ us. IsChild us p c r) (sym (take-map (settled i z) m.fixed vs))
+      (spot_kept i z (take m.fixed vs) (child_in p c) r h))
+      (λ p r h. subst (λ us. region_in (slice_get us p) ≡ Some r) (sym (take-map (settled i z) m.fixed vs)) (spot_kept i z (take m.fixed vs) (in_slot p) r h)) m.stack st s.stack;
   facts = facts_kept i z vs x m.slots s.slots m.facts stands s.facts;
   top = tops_kept i z vs m.top st s.top;
   args = λ k l. region_kept i z vs k ∙ s.args k l;

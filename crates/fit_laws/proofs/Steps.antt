@@ -1,6 +1,6 @@
 -- From a machine that fits valid code, a step leads to one that fits, or stops well.
-use Rattle.std.proofs.Common.{◌≡◌, inl, inr, ⊎_elim, ℕ, suc, ◌<◌, ◌≤◌, ◌^◌, ℤ, pos, ◌+ℤ◌, List, ◌∷◌, Bool, true, false, cond, Option, Some, None, refl, sym, ap, ◌∙◌, subst, arith}
-use Rattle.std.specs.Prelude.{slice_get, slice_set, length, int_lt, ◌==◌}
+use Rattle.std.proofs.Common.{◌≡◌, inl, inr, ⊎_elim, ℕ, suc, ◌<◌, ◌≤◌, ◌^◌, ℤ, pos, negsuc, ◌+ℤ◌, List, ◌∷◌, Bool, true, false, cond, Option, Some, None, refl, sym, ap, ◌∙◌, subst, arith}
+use Rattle.std.specs.Prelude.{slice_get, slice_set, length, int_lt, ◌==◌, ◌%◌}
 use Rattle.std.specs.Ordering.{int_eq}
 use Rattle.std.proofs.lemmas.Bool.{lt-ltb, eqb-false}
 use Rattle.std.proofs.lemmas.Option.{slice_get-get_or, none-some}
@@ -14,18 +14,22 @@ use Rattle.machine_terms.specs.declared.value.RegionValue.{RegionValue}
 use Rattle.machine_terms.specs.declared.value.Value.{Value}
 use Rattle.machine_terms.specs.declared.value.Value.TheVariants as value
 use Rattle.machine_terms.specs.Machine.{Machine, Stepped, goes, when, at, put, with_turns, next, broken, on_turn, on_number}
+use Rattle.regent_tree.specs.Values.{target_kept}
 use Rattle.machine_terms.specs.Numbers.{load, store}
+use Rattle.machine_terms.specs.Pointers.{point}
 use Rattle.machine_terms.specs.Jumps.{fetch, may_jump, jump, leave, round, count_round, next_number, size_of, point_at, take_point, point_round, points_round}
 use Rattle.machine_terms.specs.Regions.{child, child_at, coloured, partition_in, with_partition}
 use Rattle.machine_terms.specs.Segments.{act, act_at, step}
-use Rattle.fit_rules.specs.Shapes.{Among, Each, Shape, integer, truth, index, pointer, space, region, awaited, IsPartition, is_region, is_pending, Numeric, numeric_integer, numeric_truth, numeric_index, numeric_pointer, NumberIs, World, Is, is_number, Are, are_more, unknown}
-use Rattle.fit_rules.specs.Marks.{HasNumber, Colour, colour_in, HasColour, child_in, top_colour, top_lies, HoldsTop, ColoursStand, topped, Fact, counts, parted, lies, in_slot, Holds, AtMost, size_in, Mark, Suits, stacked}
+use Rattle.fit_rules.specs.Shapes.{Among, Each, HasPoint, IsPointOf, Shape, integer, truth, index, pointer, space, region, awaited, IsPartition, is_region, is_pending, Numeric, numeric_integer, numeric_truth, numeric_index, numeric_pointer, NumberIs, World, Is, is_number, Are, are_more, unknown}
+use Rattle.fit_rules.specs.Marks.{HasNumber, Colour, colour_in, point_in, HasColour, child_in, top_colour, top_at, HoldsTop, ColoursStand, topped, Fact, counts, parted, lies, in_slot, Holds, AtMost, size_in, Mark, Suits, stacked}
 use Rattle.fit_rules.specs.Fits.{Program, Fits}
-use Rattle.fit_rules.specs.Sound.{HasPartition, To, ToStored, RoundNumber, RoundPoint, Sound, straight, colours, colours_by, takes_child, awaits, stored, jumps, jumps_if_not, jumps_and, jumps_or, counts_numbers, counts_points, makes_root, makes_equal, makes_by_field, makes_minus, makes_meet, makes_join, makes_image, makes_preimage, makes_call, takes_turn, returns, returns_value, Valid}
+use Rattle.fit_rules.specs.Sound.{HasPartition, To, ToStored, RoundNumber, RoundPoint, Sound, straight, colours, colours_by, colours_point, takes_child, awaits, stored, jumps, jumps_if_not, jumps_and, jumps_or, counts_numbers, counts_points, makes_root, makes_equal, makes_by_field, makes_minus, makes_meet, makes_join, makes_image, makes_preimage, makes_call, takes_turn, returns, returns_value, Valid}
 use Rattle.fit_rules.specs.Ends.{Safe, safe_goes, safe_stops}
+use Rattle.fit_laws.proofs.Held.{over, region_held}
 use Rattle.fit_laws.proofs.Lookup.{each_among, value_at, as_long}
 use Rattle.fit_laws.proofs.Straight.{beside_moved, fits_at, fits_topped, moved, safe_number, turned}
 use Rattle.fit_laws.proofs.Pointers.{partition_at, among_coloured}
+use Rattle.fit_laws.proofs.Numbers.{point_below, small_fits}
 use Rattle.fit_laws.proofs.Calls.{call_safe}
 use Rattle.fit_laws.proofs.Columns.{by_field_safe, image_safe, preimage_safe}
 use Rattle.fit_laws.proofs.Rooting.{new_root_safe}
@@ -37,13 +41,13 @@ module _ (g : Program) (x : World) (t : TaskCode) (k : ℕ) (m : Machine) (fit :
   abbrev here : Mark
   here = g.marks k m.frame.pc
 
-  same_stack : (ss : List Shape) → here.stack ≡ ss → Are x ss m.frame.stack
-  same_stack ss e = subst (λ y. Are x y m.frame.stack) e fit.suits.stack
+  same_stack : (ss : List Shape) → here.stack ≡ ss → Are (over g x k m) ss m.frame.stack
+  same_stack ss e = subst (λ y. Are (over g x k m) y m.frame.stack) e fit.suits.stack
 
   -- ---- slots
 
   stored_safe : (s : ℕ) (a : Shape) (ss : List Shape) (st : List Value) → s < length here.slots →
-      ToStored g t k here s (suc m.frame.pc) → st ≡ m.frame.stack → Are x (a ∷ ss) st →
+      ToStored g t k here s (suc m.frame.pc) → st ≡ m.frame.stack → Are (over g x k m) (a ∷ ss) st →
       Safe g x t k (store s st m)
   stored_safe s a ss _ l to e (are_more _ v _ st h b) =
       subst (λ y. Safe g x t k (when y (goes (put s v (at (suc m.frame.pc) st m))) (broken m)))
@@ -57,11 +61,11 @@ module _ (g : Program) (x : World) (t : TaskCode) (k : ℕ) (m : Machine) (fit :
   -- ---- jumps
 
   jump_safe : (to : ℕ) (ss : List Shape) (st : List Value) → may_jump t.body m.frame.pc to ≡ true →
-      To g t k (stacked here ss) to → Are x ss st → Safe g x t k (jump t.body to st m)
+      To g t k (stacked here ss) to → Are (over g x k m) ss st → Safe g x t k (jump t.body to st m)
   jump_safe to ss st e h a = subst (λ b. Safe g x t k (when b (goes (at to st m)) (broken m))) (sym e)
       (safe_goes _ (fits_at g x t k m fit to ss st h a))
 
-  next_safe : (ss : List Shape) (st : List Value) → To g t k (stacked here ss) (suc m.frame.pc) → Are x ss st →
+  next_safe : (ss : List Shape) (st : List Value) → To g t k (stacked here ss) (suc m.frame.pc) → Are (over g x k m) ss st →
       Safe g x t k (next st m)
   next_safe ss st h a = safe_goes _ (fits_at g x t k m fit (suc m.frame.pc) ss st h a)
 
@@ -157,7 +161,7 @@ module _ (g : Program) (x : World) (t : TaskCode) (k : ℕ) (m : Machine) (fit :
 
   child_coloured : (i line : ℕ) (sp : Option ℕ) (a : Shape) (ss : List Shape) (c : Colour) →
       here.stack ≡ a ∷ ss → Numeric a → HasPartition here sp i → Among here.top (top_colour c) →
-      To g t k (topped here (region sp unknown ∷ ss) (top_lies (child_in i c))) (suc m.frame.pc) →
+      To g t k (topped here (region sp unknown ∷ ss) (top_at (child_in i c))) (suc m.frame.pc) →
       Safe g x t k (child i line m)
   child_coloured i line sp a ss c e n h q to =
       let w = partition_at g x t k m fit sp i h in
@@ -167,19 +171,15 @@ module _ (g : Program) (x : World) (t : TaskCode) (k : ℕ) (m : Machine) (fit :
       (each_among (λ y. HoldsTop y m.frame.slots m.frame.stack) here.top (top_colour c) q fit.suits.top))
     where
       of_child : (o : Option RegionValue) (z : ℤ) (st : List Value) (p : PartitionValue) →
-          coloured p.children z ≡ o → Are x ss st →
+          coloured p.children z ≡ o → Are (over g x k m) ss st →
           partition_in (slice_get m.frame.slots i) ≡ Some p → IsPartition x sp h.disjoint p →
           HasColour m.frame.slots c z → Safe g x t k (child_at o line st m)
       of_child None z st p eo b ep ip hc = safe_stops _ _ (fit.beside.parts, tt)
       of_child (Some r) z st p eo b ep ip hc = safe_goes _ (fits_topped g x t k m fit (suc m.frame.pc) _ _ _ to
-          (are_more _ _ ss st (is_region sp unknown r (ip.regions r (among_coloured p.children z r eo)).1) b)
-          (record {
-            other = r;
-            at = record { parts = p; there = ep; colour = z; has_colour = hc; child = eo };
-            inside = (refl, λ q h. h);
-          }))
+          (are_more _ _ ss st (is_region sp unknown r (region_held x _ sp unknown r tt (ip.regions r (among_coloured p.children z r eo)).1)) b)
+          (record { parts = p; there = ep; colour = z; has_colour = hc; child = eo }))
 
-      of_stack : (st : List Value) → Are x (a ∷ ss) st → Numeric a → (p : PartitionValue) →
+      of_stack : (st : List Value) → Are (over g x k m) (a ∷ ss) st → Numeric a → (p : PartitionValue) →
           partition_in (slice_get m.frame.slots i) ≡ Some p → IsPartition x sp h.disjoint p →
           HoldsTop (top_colour c) m.frame.slots st →
           Safe g x t k (on_number st m (λ z st. child_at (coloured p.children z) line st m))
@@ -188,6 +188,35 @@ module _ (g : Program) (x : World) (t : TaskCode) (k : ℕ) (m : Machine) (fit :
       of_stack _ (are_more _ (value.Region z) _ st hv b) n p ep ip hc = absurd hc
       of_stack _ (are_more _ (value.Partition z) _ st hv b) n p ep ip hc = absurd hc
       of_stack _ (are_more _ (value.Pending z) _ st hv b) n p ep ip hc = absurd hc
+
+  -- the point of a pointer in a slot
+  point_coloured : (i line : ℕ) (a : Shape) (ss : List Shape) → here.stack ≡ a ∷ ss → Among here.top (top_colour (colour_in i)) →
+      To g t k (topped here (index ∷ ss) (top_colour (point_in i))) (suc m.frame.pc) →
+      Safe g x t k (on_number m.frame.stack m (λ z st. point (target_kept z) line st m))
+  point_coloured i line a ss e q to = of_stack m.frame.stack (same_stack (a ∷ ss) e)
+      (each_among (λ y. HoldsTop y m.frame.slots m.frame.stack) here.top (top_colour (colour_in i)) q fit.suits.top)
+    where
+      of_slot : (n : ℕ) (o : Option Value) → HasNumber (pos n) o → HasPoint (pos (n % 2 ^ 32)) o
+      of_slot n (Some (value.Number y)) h = subst (λ u. IsPointOf (pos (n % 2 ^ 32)) (target_kept u)) (sym h) refl
+      of_slot n None h = absurd h
+      of_slot n (Some (value.Space y)) h = absurd h
+      of_slot n (Some (value.Region y)) h = absurd h
+      of_slot n (Some (value.Partition y)) h = absurd h
+      of_slot n (Some (value.Pending y)) h = absurd h
+
+      of_number : (z : ℤ) (st : List Value) → Are (over g x k m) ss st → HasNumber z (slice_get m.frame.slots i) →
+          Safe g x t k (point (target_kept z) line st m)
+      of_number (pos n) st b h = safe_goes _ (fits_topped g x t k m fit (suc m.frame.pc) _ _ _ to
+          (are_more index _ ss st (is_number index _ (small_fits _ (point_below n))) b) (of_slot n (slice_get m.frame.slots i) h))
+      of_number (negsuc n) st b h = safe_stops _ _ (fit.beside.parts, tt)
+
+      of_stack : (st : List Value) → Are (over g x k m) (a ∷ ss) st → HoldsTop (top_colour (colour_in i)) m.frame.slots st →
+          Safe g x t k (on_number st m (λ z st. point (target_kept z) line st m))
+      of_stack _ (are_more _ (value.Number z) _ st hv b) h = of_number z st b h
+      of_stack _ (are_more _ (value.Space z) _ st hv b) h = absurd h
+      of_stack _ (are_more _ (value.Region z) _ st hv b) h = absurd h
+      of_stack _ (are_more _ (value.Partition z) _ st hv b) h = absurd h
+      of_stack _ (are_more _ (value.Pending z) _ st hv b) h = absurd h
 
   -- ---- results
 
@@ -273,6 +302,7 @@ module _ (g : Program) (x : World) (t : TaskCode) (k : ℕ) (m : Machine) (fit :
   sound_safe short _ line (colours z s h to) = safe_goes _ (fits_topped g x t k m fit (suc m.frame.pc) _ _ _ to
       (are_more s _ _ _ (is_number s z h) fit.suits.stack) refl)
   sound_safe short _ line (colours_by i s e n to) = slot_coloured i s e n to
+  sound_safe short _ line (colours_point i a ss e n q to) = point_coloured i line a ss e q to
   sound_safe short _ line (takes_child i sp a ss c e n h q to) = child_coloured i line sp a ss c e n h q to
   sound_safe short _ line (awaits i s e n h to) = awaited_safe i s e n h to
   sound_safe short _ line (stored s a ss e l to) =

@@ -19,6 +19,7 @@ use Rattle.fit_rules.specs.Marks.{TopFact, HoldsTop, Mark, Suits, stacked, toppe
 use Rattle.fit_rules.specs.Fits.{Program, Beside, Fits, PartsFit}
 use Rattle.fit_rules.specs.Sound.{Settled, settled_number, settled_space, settled_region, settled_partition, settled_cut, To}
 use Rattle.fit_rules.specs.Ends.{Safe, safe_goes, safe_stops}
+use Rattle.fit_laws.proofs.Held.{over}
 use Rattle.fit_laws.proofs.Numbers.{wrapped_fits, small_fits, point_below}
 
 module _ (g : Program) (x : World) (t : TaskCode) (k : ℕ) (m : Machine) (fit : Fits g x t k m) where
@@ -47,7 +48,7 @@ module _ (g : Program) (x : World) (t : TaskCode) (k : ℕ) (m : Machine) (fit :
   beside_at : (pc : ℕ) (st : List Value) → Beside g x t k (at pc st m)
   beside_at pc st = beside_moved pc m.frame.turns m.frame.slots st m.parts (omega arith) fit.beside.parts
 
-  pub suits_at : (to : ℕ) (ss : List Shape) (st : List Value) → To g t k (stacked mark ss) to → Are x ss st →
+  pub suits_at : (to : ℕ) (ss : List Shape) (st : List Value) → To g t k (stacked mark ss) to → Are (over g x k m) ss st →
       Suits x t.params (g.marks k to) m.frame.slots st
   suits_at to ss st h a = h.1 x _ st (record {
     slots = fit.suits.slots;
@@ -58,11 +59,11 @@ module _ (g : Program) (x : World) (t : TaskCode) (k : ℕ) (m : Machine) (fit :
   })
 
   pub fits_at : (to : ℕ) (ss : List Shape) (st : List Value) → To g t k (stacked mark ss) to →
-      Are x ss st → Fits g x t k (at to st m)
+      Are (over g x k m) ss st → Fits g x t k (at to st m)
   fits_at to ss st h a = record { inside = h.0; suits = suits_at to ss st h a; beside = beside_at to st }
 
   pub fits_topped : (to : ℕ) (ss : List Shape) (st : List Value) (f : TopFact) → To g t k (topped mark ss f) to →
-      Are x ss st → HoldsTop f m.frame.slots st → Fits g x t k (at to st m)
+      Are (over g x k m) ss st → HoldsTop f m.frame.slots st → Fits g x t k (at to st m)
   fits_topped to ss st f h a y = record {
     inside = h.0;
     suits = h.1 x _ st (record {
@@ -82,13 +83,13 @@ module _ (g : Program) (x : World) (t : TaskCode) (k : ℕ) (m : Machine) (fit :
   turned (suc p) line more e h = h p (sym e)
 
   pub safe_next : (ss : List Shape) (st : List Value) → To g t k (stacked mark ss) (suc m.frame.pc) →
-      Are x ss st → Safe g x t k (next st m)
+      Are (over g x k m) ss st → Safe g x t k (next st m)
   safe_next ss st h a = safe_goes _ (fits_at (suc m.frame.pc) ss st h a)
 
   -- a number on the stack
   pub safe_number : (s : Shape) (ss : List Shape) (st : List Value) (more : ℤ → List Value → Stepped) →
-      Numeric s → Are x (s ∷ ss) st →
-      ((z : ℤ) (rest : List Value) → NumberIs s z → Are x ss rest → Safe g x t k (more z rest)) →
+      Numeric s → Are (over g x k m) (s ∷ ss) st →
+      ((z : ℤ) (rest : List Value) → NumberIs s z → Are (over g x k m) ss rest → Safe g x t k (more z rest)) →
       Safe g x t k (on_number st m more)
   safe_number _ ss _ more (numeric_integer w) (are_more _ _ _ _ (is_number _ z h) a) f = f z _ h a
   safe_number _ ss _ more numeric_truth (are_more _ _ _ _ (is_number _ z h) a) f = f z _ h a
@@ -96,22 +97,22 @@ module _ (g : Program) (x : World) (t : TaskCode) (k : ℕ) (m : Machine) (fit :
   safe_number _ ss _ more (numeric_pointer n) (are_more _ _ _ _ (is_number _ z h) a) f = f z _ h a
 
   pub safe_two : (b a : Shape) (ss : List Shape) (st : List Value) (more : ℤ → ℤ → List Value → Stepped) →
-      Are x (b ∷ a ∷ ss) st → Numeric a → Numeric b →
-      ((y z : ℤ) (rest : List Value) → NumberIs a y → NumberIs b z → Are x ss rest →
+      Are (over g x k m) (b ∷ a ∷ ss) st → Numeric a → Numeric b →
+      ((y z : ℤ) (rest : List Value) → NumberIs a y → NumberIs b z → Are (over g x k m) ss rest →
       Safe g x t k (more y z rest)) → Safe g x t k (on_two st m more)
   safe_two b a ss st more h na nb f = safe_number b (a ∷ ss) st _ nb h (λ z rest hz i.
       safe_number a ss rest _ na i (λ y last hy j. f y z last hy hz j))
 
   -- a number is pushed
   pub pushed : (s : Shape) (ss : List Shape) (z : ℤ) (st : List Value) →
-      To g t k (stacked mark (s ∷ ss)) (suc m.frame.pc) → NumberIs s z → Are x ss st →
+      To g t k (stacked mark (s ∷ ss)) (suc m.frame.pc) → NumberIs s z → Are (over g x k m) ss st →
       Safe g x t k (next (Number z ∷ st) m)
   pushed s ss z st h i a = safe_next (s ∷ ss) _ h (are_more s _ ss st (is_number s z i) a)
 
   -- ---- loads
 
   pub loads : (s : Shape) (ss : List Shape) (v : Value) → Settled s →
-      To g t k (stacked mark (s ∷ ss)) (suc m.frame.pc) → Is x s v → Are x ss m.frame.stack →
+      To g t k (stacked mark (s ∷ ss)) (suc m.frame.pc) → Is (over g x k m) s v → Are (over g x k m) ss m.frame.stack →
       Safe g x t k (load m (Some v))
   loads _ ss _ (settled_number _ (numeric_integer w)) h (is_number _ z i) a = pushed _ ss z _ h i a
   loads _ ss _ (settled_number _ numeric_truth) h (is_number _ z i) a = pushed _ ss z _ h i a
@@ -133,13 +134,13 @@ module _ (g : Program) (x : World) (t : TaskCode) (k : ℕ) (m : Machine) (fit :
   -- ---- arithmetic
 
   quotient : (w : Width) (ss : List Shape) (b : Bool) (z : ℤ) (line : ℕ) (st : List Value) →
-      To g t k (stacked mark (integer w ∷ ss)) (suc m.frame.pc) → Are x ss st →
+      To g t k (stacked mark (integer w ∷ ss)) (suc m.frame.pc) → Are (over g x k m) ss st →
       Safe g x t k (divided (unless_zero b (wrapped w z)) line st m)
   quotient w ss true z line st h a = safe_stops _ _ (fit.beside.parts, tt)
   quotient w ss false z line st h a = pushed (integer w) ss _ st h (wrapped_fits w z) a
 
   pub computed_safe : (o : Arithmetic) (w : Width) (ss : List Shape) (y z : ℤ) (line : ℕ) (st : List Value) →
-      To g t k (stacked mark (integer w ∷ ss)) (suc m.frame.pc) → Are x ss st →
+      To g t k (stacked mark (integer w ∷ ss)) (suc m.frame.pc) → Are (over g x k m) ss st →
       Safe g x t k (divided (computed o w y z) line st m)
   computed_safe arithmetic.Add w ss y z line st h a = pushed (integer w) ss _ st h (wrapped_fits w _) a
   computed_safe arithmetic.Subtract w ss y z line st h a = pushed (integer w) ss _ st h (wrapped_fits w _) a
@@ -150,7 +151,7 @@ module _ (g : Program) (x : World) (t : TaskCode) (k : ℕ) (m : Machine) (fit :
   -- ---- pointers
 
   pub point_safe : (ss : List Shape) (z : ℤ) (line : ℕ) (st : List Value) →
-      To g t k (stacked mark (index ∷ ss)) (suc m.frame.pc) → Are x ss st →
+      To g t k (stacked mark (index ∷ ss)) (suc m.frame.pc) → Are (over g x k m) ss st →
       Safe g x t k (point (target_kept z) line st m)
   point_safe ss (pos n) line st h a = pushed index ss _ st h (small_fits _ (point_below n)) a
   point_safe ss (negsuc n) line st h a = safe_stops _ _ (fit.beside.parts, tt)

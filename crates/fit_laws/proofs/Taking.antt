@@ -15,6 +15,7 @@ use Rattle.fit_rules.specs.Marks.{stacked}
 use Rattle.fit_rules.specs.Fits.{Program, Fits}
 use Rattle.fit_rules.specs.Sound.{Settled, settled_number, settled_space, settled_region, settled_partition, settled_cut, Takes, takes_none, takes_more, To}
 use Rattle.fit_rules.specs.Ends.{Safe, safe_prints}
+use Rattle.fit_laws.proofs.Held.{over}
 use Rattle.fit_laws.proofs.Straight.{fits_at}
 use Rattle.machine_terms.specs.declared.value.RegionValue.{RegionValue}
 
@@ -109,11 +110,11 @@ module _ (x : World) where
 module _ (g : Program) (x : World) (t : TaskCode) (k : ℕ) (m : Machine) (fit : Fits g x t k m) where
   pub print_safe : (ps : List PrintPart) (ss args rest : List Shape) → Takes (count_numbers ps) ss [] args rest →
       Each Numeric args → length args ≡ count_numbers ps →
-      To g t k (stacked (g.marks k m.frame.pc) rest) (suc m.frame.pc) → Are x ss m.frame.stack →
+      To g t k (stacked (g.marks k m.frame.pc) rest) (suc m.frame.pc) → Are (over g x k m) ss m.frame.stack →
       Safe g x t k (print ps m)
   print_safe ps ss args rest h n e to a =
-      let w = takes_values x (count_numbers ps) ss [] args rest m.frame.stack [] h a are_none in
-      let u = texts x ps args w.values n w.args_are e in
+      let w = takes_values (over g x k m) (count_numbers ps) ss [] args rest m.frame.stack [] h a are_none in
+      let u = texts (over g x k m) ps args w.values n w.args_are e in
       subst (λ o. Safe g x t k (printing ps o m)) (sym w.is)
       (subst (λ o. Safe g x t k (writing o w.below m)) (sym u.is)
       (safe_prints u.text _ (fits_at g x t k m fit (suc m.frame.pc) rest w.below to w.rest_are)))

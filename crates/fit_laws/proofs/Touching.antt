@@ -24,8 +24,9 @@ use Rattle.machine_terms.specs.Touches.{touch_of, touch_through, touch_region, t
 use Rattle.code_rules.specs.Instructions.{computing, comparing}
 use Rattle.fit_rules.specs.Shapes.{Among, Each, Shape, pointer, World, is_number, Are, are_more}
 use Rattle.fit_rules.specs.Fits.{Program, Covers, Fits}
-use Rattle.fit_rules.specs.Sound.{Allowed, Through, Effect, does_num, does_load, does_drop, does_compute, does_compare, does_pointers_equal, does_pointers_differ, does_negate, does_wrap, does_invert, does_point, does_is_null, does_assert, does_move, does_element, does_read, does_write, does_reduce, does_fill, does_cast, does_cast_pointer, does_space, does_colors, does_child, does_print, Sound, straight, colours, colours_by, takes_child, awaits, stored, jumps, jumps_if_not, jumps_and, jumps_or, counts_numbers, counts_points, makes_root, makes_equal, makes_by_field, makes_minus, makes_meet, makes_join, makes_image, makes_preimage, makes_call, takes_turn, returns, returns_value, Valid}
+use Rattle.fit_rules.specs.Sound.{Allowed, Through, Effect, does_num, does_load, does_load_as, does_drop, does_compute, does_compare, does_pointers_equal, does_pointers_differ, does_negate, does_wrap, does_invert, does_point, does_is_null, does_assert, does_move, does_element, does_read, does_write, does_reduce, does_fill, does_cast, does_cast_pointer, does_space, does_colors, does_child, does_print, Sound, straight, colours, colours_by, colours_point, takes_child, awaits, stored, jumps, jumps_if_not, jumps_and, jumps_or, counts_numbers, counts_points, makes_root, makes_equal, makes_by_field, makes_minus, makes_meet, makes_join, makes_image, makes_preimage, makes_call, takes_turn, returns, returns_value, Valid}
 use Rattle.fit_rules.specs.Ends.{Safe, safe_goes, safe_prints, safe_stops}
+use Rattle.fit_laws.proofs.Held.{over}
 use Rattle.fit_laws.proofs.Access.{AimedWell, aims_well, fails_well, aim_well, region_at}
 use Rattle.fit_laws.proofs.Fills.{points_had}
 use Rattle.fit_laws.proofs.Steps.{step_safe}
@@ -68,7 +69,7 @@ module _ (g : Program) (x : World) (t : TaskCode) (k : ℕ) where
     of_aim sp f a _ (fails_well y) = tt
 
     through : (sp f : ℕ) (a : Mode) (n : ℕ) (rs : List ℕ) (ss : List Shape) (st : List Value) →
-        Through g t (g.marks k m.frame.pc) sp f a n rs → Are x (pointer n ∷ ss) st →
+        Through g t (g.marks k m.frame.pc) sp f a n rs → Are (over g x k m) (pointer n ∷ ss) st →
         AreCovered (touch_through a rs f m st)
     through sp f a n rs ss _ r (are_more _ _ _ st (is_number _ z i) b) =
         of_aim sp f a _ (aim_well g x t k m fit sp f a n rs (target_kept z) r i.1)
@@ -82,9 +83,10 @@ module _ (g : Program) (x : World) (t : TaskCode) (k : ℕ) where
         (λ p l. h.covers x _ _ fit.suits r.region_there r.there p (points_had r.region_there.points p l)))
 
     of_effect : (i : Instr) (ss us : List Shape) → Effect g t (g.marks k m.frame.pc) i ss us →
-        Are x ss m.frame.stack → AreCovered (touched_by i m)
+        Are (over g x k m) ss m.frame.stack → AreCovered (touched_by i m)
     of_effect _ _ _ (does_num z s ss h) a = tt
-    of_effect _ _ _ (does_load i s ss e l) a = tt
+    of_effect _ _ _ (does_load i s ss e l p) a = tt
+    of_effect _ _ _ (does_load_as i b s ss e l h) a = tt
     of_effect _ _ _ (does_drop s ss) a = tt
     of_effect _ _ _ (does_compute o w c d ss nc nd) a = subst AreCovered (sym (no_touch_computing o w m)) tt
     of_effect _ _ _ (does_compare o c d ss nc nd) a = subst AreCovered (sym (no_touch_comparing o m)) tt
@@ -113,6 +115,7 @@ module _ (g : Program) (x : World) (t : TaskCode) (k : ℕ) where
     of_sound _ (straight i ss e to) = of_effect i _ ss e fit.suits.stack
     of_sound _ (colours z s h to) = tt
     of_sound _ (colours_by i s e n to) = tt
+    of_sound _ (colours_point i a ss e n q to) = tt
     of_sound _ (takes_child i sp a ss c e n h q to) = tt
     of_sound _ (awaits i s e n h to) = tt
     of_sound _ (stored s a ss e l to) = tt

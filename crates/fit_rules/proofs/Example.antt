@@ -21,10 +21,11 @@ use Rattle.machine_terms.specs.declared.value.Value.TheVariants as value
 use Rattle.machine_terms.specs.Makes.{region_with}
 use Rattle.machine_terms.specs.Parts.{cell_of, cell_at, is_part_of}
 use Rattle.machine_terms.specs.Pointers.{region_in}
-use Rattle.fit_rules.specs.Shapes.{Among, Shape, integer, region, partition, World, IsRegion, IsPartition, Is, is_number, is_region, is_partition, Are, are_none, are_more, Origin, unknown, own_as, argument, ComesFrom, KnowsRoots}
-use Rattle.fit_rules.specs.Marks.{Holds, lies, in_slot, parted, LiesAt, LiesIn, IsParted, Suits}
+use Rattle.machine_terms.specs.Regions.{coloured}
+use Rattle.fit_rules.specs.Shapes.{Among, Shape, integer, region, partition, World, IsRegion, IsPartition, Is, is_number, is_region, is_partition, Are, are_none, are_more, Origin, unknown, own_as, argument, ComesFrom, KnowsRoots, argument, child_at, the_colour}
+use Rattle.fit_rules.specs.Marks.{Holds, lies, in_slot, parted, LiesAt, LiesIn, IsParted, Suits, around}
 use Rattle.fit_rules.specs.Fits.{requires, claims, AreClaims, no_claims, a_claim, CellFits, PartFits, PartsFit}
-use Rattle.fit_rules.specs.Example.{task, program, whole, part, args_of, world_of, held, halves, numbers, made, machine, later, ExampleFits, FailsEachPoint}
+use Rattle.fit_rules.specs.Example.{task, program, whole, part, args_of, world_of, held, halves, numbers, made, machine, later, ExampleFits, FailsEachPoint, ChildIsKnown, handing}
 use Rattle.fit_rules.proofs.Points.{counted_points}
 
 -- ---- regions and the partition
@@ -243,6 +244,42 @@ example_fits = record {
         own_there : (r : ℕ) → Among (5 ∷ []) r → (world_of (args_of part halves)).there r ≡ true
         own_there r (inl e) = subst (λ y. (world_of (args_of part halves)).there y ≡ true) e refl
         own_there r (inr h) = absurd h
+
+-- ---- a child on the stack
+
+pub child_is_known : ChildIsKnown
+child_is_known = (
+  record {
+    slots = suits.slots;
+    stack = are_more _ _ _ _ (is_region (Some 0) (child_at 2 (the_colour (pos 1)) (argument 0)) part (record {
+      there = refl;
+      space = refl;
+      set = half.set;
+      points = half.points;
+      origin = (
+        whole,
+        refl,
+        (refl, λ p h. has_tail p 0 (1 ∷ []) h),
+        record { parts = cut given; there = refl; colour = pos 1; has_colour = refl; child = refl },
+      );
+    })) are_none;
+    facts = suits.facts;
+    top = tt;
+    args = args_stand;
+  },
+  λ s. other s.stack,
+)
+  where
+    half : IsRegion (world_of given) (Some 0) unknown part
+    half = second_half given unknown tt
+
+    other : Are (around (world_of given) (handing (pos 0)) slots) (region (Some 0) (child_at 2 (the_colour (pos 0)) (argument 0)) ∷ []) (value.Region part ∷ []) → ⊥
+    other (are_more _ _ _ _ (is_region _ _ _ i) a) =
+        let c = i.origin.3 in
+        let parts : cut given ≡ c.parts = same_Some _ _ c.there in
+        let child = subst (λ z. coloured (cut given).children z ≡ Some part) c.has_colour
+        (subst (λ (q : PartitionValue). coloured q.children c.colour ≡ Some part) (sym parts) c.child) in
+        false≢true (sym (ap (λ (r : RegionValue). has r.points 0) (same_Some (region_with 3 (0 ∷ [])) part child)))
 
 -- ---- states that fail
 

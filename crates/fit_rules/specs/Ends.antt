@@ -55,7 +55,7 @@ grown_by g x (c ∷ cs) = grown_by g (grown x (g.results c.task)) cs
 
 -- what stands around a frame that opens with arguments
 abbrev pub called : World → List Value → World
-called x vs = record x { results = λ i. anything; children = 0; own = []; last = λ i. None; args = vs }
+called x vs = record x { results = λ i. anything; children = 0; own = []; last = λ i. None; args = vs; held = [] }
 
 abbrev pub opening_machine : ℕ → ℕ → ℕ → TaskCode → List Value → Machine
 opening_machine turns depth k t vs = record { frame = opening turns depth k t vs; parts = [] }

@@ -2,7 +2,7 @@
 --
 -- The task takes a region, a region within it and a disjoint partition of it, and reads and writes a field
 -- of the first. It has made a root of its own, and adds 1 to the field at an element of the second region.
-use Rattle.std.specs.Prelude.{ℕ, ◌^◌, ◌+◌, pos, List, [], ◌∷◌, Bool, true, false, None, Some, get_or, cond, ◌==◌, ◌||◌}
+use Rattle.std.specs.Prelude.{ℕ, ◌^◌, ◌+◌, pos, List, [], ◌∷◌, Bool, true, false, None, Some, get_or, cond, ◌==◌, ◌||◌, ℤ}
 use Rattle.lane_kernels.specs.declared.numbers.FieldKind.TheVariants.{Int32, Int64}
 use Rattle.lane_kernels.specs.declared.numbers.Mode.{Mode}
 use Rattle.lane_kernels.specs.declared.numbers.Mode.TheVariants.{Read, Write}
@@ -19,8 +19,8 @@ use Rattle.machine_terms.specs.declared.value.Value.{Value}
 use Rattle.machine_terms.specs.declared.value.Value.TheVariants as value
 use Rattle.machine_terms.specs.Machine.{Machine}
 use Rattle.machine_terms.specs.Makes.{region_with}
-use Rattle.fit_rules.specs.Shapes.{Shape, anything, integer, index, pointer, space, region, partition, argument, own_as, World}
-use Rattle.fit_rules.specs.Marks.{Fact, lies, in_slot, parted, Mark}
+use Rattle.fit_rules.specs.Shapes.{Shape, anything, integer, index, pointer, space, region, partition, argument, own_as, World, child_at, the_colour}
+use Rattle.fit_rules.specs.Marks.{Fact, lies, in_slot, parted, Mark, Suits}
 use Rattle.fit_rules.specs.Fits.{Program, Fits, BeforeFits}
 
 -- ---- the code
@@ -58,6 +58,7 @@ mark own element stack = record {
   facts = known;
   stack = stack;
   top = [];
+  fixed = 0;
 }
 
 -- before the root is in its slot, before the pointer is, and behind both
@@ -119,6 +120,7 @@ world_of args = record {
   own = 5 ∷ [];
   last = λ i. cond (i == 3) (Some 5) None;
   args = args;
+  held = [];
 }
 
 abbrev pub need : ℕ → Mode → Need
@@ -215,3 +217,16 @@ FailsEachPoint =
     -- with its turns the count of children would pass 64 bits
     × Misfits (args_of part halves)
     (standing part halves made numbers needs (2 ^ 64) (held Write 41 ∷ []))
+
+-- ---- a child on the stack
+
+-- the region on the stack is known as the child by a colour of the partition in slot 2
+abbrev pub handing : ℤ → Mark
+handing z = record (later (region (Some 0) (child_at 2 (the_colour z) (argument 0)) ∷ [])) { fixed = 3 }
+
+abbrev pub Hands : ℤ → Type 0
+Hands z = Suits (world_of (args_of part halves)) 3 (handing z) machine.frame.slots (value.Region part ∷ [])
+
+-- it is the one by the colour 1, and not that by the colour 0
+abbrev pub ChildIsKnown : Type 0
+ChildIsKnown = Hands (pos 1) × (Hands (pos 0) → ⊥)

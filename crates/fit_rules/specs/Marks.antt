@@ -1,5 +1,5 @@
 -- Marks: what is known of a frame at a place of compiled code.
-use Rattle.std.specs.Prelude.{◌≡◌, ℕ, ℤ, pos, ◌<◌, ◌≤◌, List, [], ◌∷◌, true, false, Option, Some, None, slice_get, slice_set}
+use Rattle.std.specs.Prelude.{◌≡◌, ℕ, pos, ◌<◌, ◌≤◌, List, [], ◌∷◌, true, false, Option, Some, None, slice_get, slice_set, take}
 use Rattle.plain_values.specs.Points.{has}
 use Rattle.machine_terms.specs.declared.value.PartitionValue.{PartitionValue}
 use Rattle.machine_terms.specs.declared.value.RegionValue.{RegionValue}
@@ -7,17 +7,11 @@ use Rattle.machine_terms.specs.declared.value.Value.{Value}
 use Rattle.machine_terms.specs.declared.value.Value.TheVariants as value
 use Rattle.machine_terms.specs.Jumps.{size_of}
 use Rattle.machine_terms.specs.Pointers.{region_in}
-use Rattle.machine_terms.specs.Regions.{partition_in, coloured}
-use Rattle.fit_rules.specs.Shapes.{Among, Each, Shape, Numeric, World, Are}
-pub use Rattle.fit_rules.specs.Shapes.{LiesIn}
+use Rattle.machine_terms.specs.Regions.{partition_in}
+use Rattle.fit_rules.specs.Shapes.{Among, Each, Shape, Numeric, World, holding, Are}
+pub use Rattle.fit_rules.specs.Shapes.{Colour, the_colour, colour_in, point_in, any_colour, HasNumber, HasColour, IsChild, LiesIn}
 
 -- ---- facts of regions in slots
-
--- the colour of a child: a number, the number in a slot, or any
-pub data Colour : Type 0 where
-  the_colour : ℤ → Colour
-  colour_in : ℕ → Colour
-  any_colour : Colour
 
 -- a region by a slot, or as a child of the partition in a slot
 pub data Spot : Type 0 where
@@ -31,23 +25,6 @@ pub data Fact : Type 0 where
   apart : Spot → Spot → Fact
   parted : ℕ → ℕ → Fact
   counts : ℕ → ℕ → Fact
-
-abbrev pub HasNumber : ℤ → Option Value → Type 0
-HasNumber z (Some (value.Number y)) = y ≡ z
-HasNumber z _ = ⊥
-
-abbrev pub HasColour : List Value → Colour → ℤ → Type 0
-HasColour slots (the_colour z) c = c ≡ z
-HasColour slots (colour_in s) c = HasNumber c (slice_get slots s)
-HasColour slots any_colour c = Unit {0}
-
--- a region stands at a spot; a colour that a partition lacks has no region
-pub record IsChild (slots : List Value) (p : ℕ) (c : Colour) (r : RegionValue) : Type 0 where
-  pub parts : PartitionValue
-  pub there : partition_in (slice_get slots p) ≡ Some parts
-  pub colour : ℤ
-  pub has_colour : HasColour slots c colour
-  pub child : coloured parts.children colour ≡ Some r
 
 abbrev pub IsAt : List Value → Spot → RegionValue → Type 0
 IsAt slots (in_slot s) r = region_in (slice_get slots s) ≡ Some r
@@ -86,6 +63,7 @@ Holds (counts c s) slots = AtMost (size_in (slice_get slots s)) (slice_get slots
 abbrev pub IsStanding : List Shape → Colour → Type 0
 IsStanding ss (the_colour z) = Unit {0}
 IsStanding ss (colour_in s) = (a : Shape) × (slice_get ss s ≡ Some a) × Numeric a
+IsStanding ss (point_in s) = (a : Shape) × (slice_get ss s ≡ Some a) × Numeric a
 IsStanding ss any_colour = Unit {0}
 
 abbrev pub SpotStands : List Shape → Spot → Type 0
@@ -100,26 +78,29 @@ ColoursStand ss (counts c s) = Unit {0}
 
 -- ---- facts of the top of the stack
 
--- The number on top is a colour; the region on top lies within another one; the partition on top is
+-- The number on top is a colour; the region on top stands at a spot; the partition on top is
 -- of the region in a slot.
 pub data TopFact : Type 0 where
   top_colour : Colour → TopFact
-  top_lies : Spot → TopFact
+  top_at : Spot → TopFact
   top_parted : ℕ → TopFact
 
 abbrev pub HoldsTop : TopFact → List Value → List Value → Type 0
 HoldsTop (top_colour c) vs (value.Number z ∷ st) = HasColour vs c z
-HoldsTop (top_lies b) vs (value.Region r ∷ st) = LiesAt vs r b
+HoldsTop (top_at b) vs (value.Region r ∷ st) = IsAt vs b r
 HoldsTop (top_parted s) vs (value.Partition q ∷ st) = IsParted vs q s
 HoldsTop _ vs _ = ⊥
 
 -- ---- marks
 
+-- What is known of slots, of the stack and of its top. The slots below a number stay as they are while something
+-- stands on the stack.
 pub record Mark : Type 0 where
   pub slots : List Shape
   pub facts : List Fact
   pub stack : List Shape
   pub top : List TopFact
+  pub fixed : ℕ
 
 -- the mark with another stack, of whose top nothing more is known
 abbrev pub stacked : Mark → List Shape → Mark
@@ -128,10 +109,14 @@ stacked m ss = record m { stack = ss; top = [] }
 abbrev pub topped : Mark → List Shape → TopFact → Mark
 topped m ss f = record m { stack = ss; top = f ∷ [] }
 
+-- what stands around the stack of a frame, with the slots that stay
+abbrev pub around : World → Mark → List Value → World
+around x m vs = holding x (take m.fixed vs)
+
 -- slots and a stack are as a mark says, and the regions among the arguments stand in their slots
 pub record Suits (x : World) (params : ℕ) (m : Mark) (vs st : List Value) : Type 0 where
   pub slots : Are x m.slots vs
-  pub stack : Are x m.stack st
+  pub stack : Are (around x m vs) m.stack st
   pub facts : Each (λ k. Holds k vs) m.facts
   pub top : Each (λ k. HoldsTop k vs st) m.top
   pub args : (i : ℕ) → i < params → region_in (slice_get vs i) ≡ region_in (slice_get x.args i)

@@ -1,5 +1,5 @@
 -- The shapes of values at a place of compiled code, and what is of a shape.
-use Rattle.std.specs.Prelude.{◌≡◌, ◌≢◌, ◌⊎◌, ℕ, ℤ, pos, ◌<◌, ◌≤◌, List, [], ◌∷◌, Bool, true, false, Option, Some, None, length, slice_get}
+use Rattle.std.specs.Prelude.{◌≡◌, ◌≢◌, ◌⊎◌, ℕ, ℤ, pos, ◌<◌, ◌≤◌, List, [], ◌∷◌, Bool, true, Option, Some, None, length, slice_get}
 use Rattle.lane_kernels.specs.declared.numbers.Width.{Width}
 use Rattle.lane_kernels.specs.declared.numbers.Width.TheVariants.{W64}
 use Rattle.lane_kernels.specs.Numbers.{FitsWidth}
@@ -11,7 +11,7 @@ use Rattle.machine_terms.specs.declared.value.RegionValue.{RegionValue}
 use Rattle.machine_terms.specs.declared.value.Value.{Value}
 use Rattle.machine_terms.specs.declared.value.Value.TheVariants as value
 use Rattle.machine_terms.specs.Pointers.{region_in}
-use Rattle.machine_terms.specs.Regions.{sets_of}
+use Rattle.machine_terms.specs.Regions.{coloured, partition_in, sets_of}
 
 -- ---- lists
 
@@ -23,16 +23,55 @@ abbrev pub Each : {A : Type 0} → (A → Type 0) → List A → Type 0
 Each P [] = Unit {0}
 Each P (x ∷ xs) = P x × Each P xs
 
+-- ---- children
+
+-- the colour of a child: a number, the number in a slot, the point of the pointer in a slot, or any
+pub data Colour : Type 0 where
+  the_colour : ℤ → Colour
+  colour_in : ℕ → Colour
+  point_in : ℕ → Colour
+  any_colour : Colour
+
+abbrev pub HasNumber : ℤ → Option Value → Type 0
+HasNumber z (Some (value.Number y)) = y ≡ z
+HasNumber z _ = ⊥
+
+abbrev pub IsPointOf : ℤ → Target → Type 0
+IsPointOf z null_target = ⊥
+IsPointOf z (point_target n i) = pos n ≡ z
+
+abbrev pub HasPoint : ℤ → Option Value → Type 0
+HasPoint z (Some (value.Number y)) = IsPointOf z (target_kept y)
+HasPoint z _ = ⊥
+
+abbrev pub HasColour : List Value → Colour → ℤ → Type 0
+HasColour slots (the_colour z) c = c ≡ z
+HasColour slots (colour_in s) c = HasNumber c (slice_get slots s)
+HasColour slots (point_in s) c = HasPoint c (slice_get slots s)
+HasColour slots any_colour c = Unit {0}
+
+-- a region is a child of the partition in a slot; a colour that a partition lacks has no region
+pub record IsChild (slots : List Value) (p : ℕ) (c : Colour) (r : RegionValue) : Type 0 where
+  pub parts : PartitionValue
+  pub there : partition_in (slice_get slots p) ≡ Some parts
+  pub colour : ℤ
+  pub has_colour : HasColour slots c colour
+  pub child : coloured parts.children colour ≡ Some r
+
 -- ---- shapes
 
 -- Where a region comes from: nothing is known of it, it is that of an argument of the task, it is the whole of a root
--- that the task made, or of the one that it made last under a number, or it lies within such a one.
+-- that the task made, or of the one that it made last under a number, it lies within such a one, or it does and is the
+-- child by a colour of the partition in a slot, or it comes from such a place and is the one in a slot, as slots are while
+-- something stands on the stack.
 pub data Origin : Type 0 where
   unknown : Origin
   argument : ℕ → Origin
   own_root : Origin
   own_as : ℕ → Origin
   part : Origin → Origin
+  child_at : ℕ → Colour → Origin → Origin
+  held_at : ℕ → Origin → Origin
 
 -- The shape of a slot or of a cell of the stack: anything at all; a number of a width; a truth; an
 -- index; a pointer with so many positions; an index space; a region of a field space, or of any, with its
@@ -77,7 +116,7 @@ NumberIs _ z = ⊥
 
 -- The roots that are there; the field space and the points of each root; the shape of each child's
 -- result, and how many children there are; the roots that the task made, and which it made last under each
--- number; and its arguments.
+-- number; its arguments; and the slots that stay as they are while something stands on the stack.
 pub record World : Type 0 where
   pub there : ℕ → Bool
   pub spaces : ℕ → ℕ
@@ -87,6 +126,11 @@ pub record World : Type 0 where
   pub own : List ℕ
   pub last : ℕ → Option ℕ
   pub args : List Value
+  pub held : List Value
+
+-- with such slots
+abbrev pub holding : World → List Value → World
+holding x vs = record x { held = vs }
 
 -- ---- regions and partitions
 
@@ -108,6 +152,20 @@ ComesFrom x (argument i) r = region_in (slice_get x.args i) ≡ Some r
 ComesFrom x own_root r = IsWhole x r
 ComesFrom x (own_as i) r = IsWhole x r × (x.last i ≡ Some r.root.0)
 ComesFrom x (part o) r = (q : RegionValue) × ComesFrom x o q × LiesIn r q
+ComesFrom x (child_at s c o) r = (q : RegionValue) × ComesFrom x o q × LiesIn r q × IsChild x.held s c r
+ComesFrom x (held_at s o) r = ComesFrom x o r × (region_in (slice_get x.held s) ≡ Some r)
+
+-- nothing is known of a child, nor of slots that stay
+abbrev pub IsPlainOrigin : Origin → Type 0
+IsPlainOrigin (part o) = IsPlainOrigin o
+IsPlainOrigin (child_at s c o) = ⊥
+IsPlainOrigin (held_at s o) = ⊥
+IsPlainOrigin o = Unit {0}
+
+abbrev pub IsPlain : Shape → Type 0
+IsPlain (region sp o) = IsPlainOrigin o
+IsPlain (cut_from sp d o) = IsPlainOrigin o
+IsPlain s = Unit {0}
 
 -- a region is a set of points of a root that is there
 pub record IsRegion (x : World) (sp : Option ℕ) (o : Origin) (r : RegionValue) : Type 0 where

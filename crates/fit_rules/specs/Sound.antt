@@ -23,8 +23,8 @@ use Rattle.machine_terms.specs.Jumps.{may_jump, fetch, taken, point_at}
 use Rattle.machine_terms.specs.Opening.{opening}
 use Rattle.machine_terms.specs.Pointers.{region_in}
 use Rattle.code_rules.specs.Instructions.{computing, comparing}
-use Rattle.fit_rules.specs.Shapes.{Among, Each, Shape, integer, truth, index, pointer, space, region, partition, cut_from, awaited, Numeric, NumberIs, Origin, own_as, part, unknown, World, KnowsRoots, Are}
-use Rattle.fit_rules.specs.Marks.{counts, lies, in_slot, the_colour, colour_in, Colour, child_in, top_colour, top_lies, top_parted, parted, Mark, Suits, Into, Stores, ColoursStand, stacked, topped}
+use Rattle.fit_rules.specs.Shapes.{Among, Each, Is, IsPlain, child_at, held_at, Shape, integer, truth, index, pointer, space, region, partition, cut_from, awaited, Numeric, NumberIs, Origin, own_as, part, unknown, World, KnowsRoots, Are}
+use Rattle.fit_rules.specs.Marks.{counts, lies, in_slot, the_colour, colour_in, point_in, Colour, around, child_in, top_colour, top_at, top_parted, parted, Mark, Suits, Into, Stores, ColoursStand, stacked, topped}
 use Rattle.fit_rules.specs.Fits.{Program, kind_at, shape_at, Covers, declared_claims, claims}
 use Rattle.fit_rules.specs.Ends.{IsNeeded, called}
 
@@ -40,6 +40,8 @@ pub data Settled : Shape → Type 0 where
 abbrev pub IsElsewhere : ℕ → Origin → Type 0
 IsElsewhere i (own_as j) = i ≢ j
 IsElsewhere i (part o) = IsElsewhere i o
+IsElsewhere i (child_at s c o) = IsElsewhere i o
+IsElsewhere i (held_at s o) = IsElsewhere i o
 IsElsewhere i o = Unit {0}
 
 abbrev pub IsOther : ℕ → Shape → Type 0
@@ -81,7 +83,11 @@ module _ (g : Program) (t : TaskCode) where
   pub data Effect (m : Mark) : Instr → List Shape → List Shape → Type 0 where
     does_num : (z : ℤ) (s : Shape) (ss : List Shape) → NumberIs s z →
         Effect m (instr.Num z) ss (s ∷ ss)
-    does_load : (i : ℕ) (s : Shape) (ss : List Shape) → slice_get m.slots i ≡ Some s → Settled s →
+    does_load : (i : ℕ) (s : Shape) (ss : List Shape) → slice_get m.slots i ≡ Some s → Settled s → IsPlain s →
+        Effect m (instr.Load i) ss (s ∷ ss)
+    -- so is one that is known, in its slot, to be of another shape
+    does_load_as : (i : ℕ) (a s : Shape) (ss : List Shape) → slice_get m.slots i ≡ Some a → Settled s →
+        ((x : World) (vs st : List Value) → Suits x t.params m vs st → (v : Value) → slice_get vs i ≡ Some v → Is (around x m vs) s v) →
         Effect m (instr.Load i) ss (s ∷ ss)
     does_drop : (s : Shape) (ss : List Shape) → Effect m instr.Drop (s ∷ ss) ss
     does_compute : (o : Arithmetic) (w : Width) (a b : Shape) (ss : List Shape) → Numeric a →
@@ -152,7 +158,7 @@ module _ (g : Program) (t : TaskCode) where
   -- frame suit its first mark, its declared needs are on regions, and what it needs is within what the caller needs.
   abbrev pub Opens : Mark → ℕ → TaskCode → List Shape → Type 0
   Opens m task callee args = (x : World) (vs st ws : List Value) → KnowsRoots x → Suits x t.params m vs st →
-      Are x args ws →
+      Are (around x m vs) args ws →
       Suits (called x ws) callee.params (g.marks task 0) (opening 0 0 task callee ws).slots []
       × Each (IsNeeded g x ws) callee.needs × IsWithin (declared_claims callee.needs ws) (claims g x t)
 
@@ -173,17 +179,20 @@ module _ (g : Program) (t : TaskCode) where
     pub data Sound (pc : ℕ) : Instr → Type 0 where
       straight : (i : Instr) (ss : List Shape) → Effect (g.marks k pc) i (g.marks k pc).stack ss →
           To (stacked (g.marks k pc) ss) (suc pc) → Sound pc i
-      -- a number and a number in a slot may be known as colours, and a child by its colour
+      -- a number, a number in a slot and the point of a pointer in one may be known as colours, and a child by its colour
       colours : (z : ℤ) (s : Shape) → NumberIs s z →
           To (topped (g.marks k pc) (s ∷ (g.marks k pc).stack) (top_colour (the_colour z))) (suc pc) →
           Sound pc (instr.Num z)
       colours_by : (i : ℕ) (s : Shape) → slice_get (g.marks k pc).slots i ≡ Some s → Numeric s →
           To (topped (g.marks k pc) (s ∷ (g.marks k pc).stack) (top_colour (colour_in i))) (suc pc) →
           Sound pc (instr.Load i)
+      colours_point : (i : ℕ) (a : Shape) (ss : List Shape) → (g.marks k pc).stack ≡ a ∷ ss → Numeric a →
+          Among (g.marks k pc).top (top_colour (colour_in i)) →
+          To (topped (g.marks k pc) (index ∷ ss) (top_colour (point_in i))) (suc pc) → Sound pc instr.Point
       takes_child : (i : ℕ) (sp : Option ℕ) (a : Shape) (ss : List Shape) (c : Colour) →
           (g.marks k pc).stack ≡ a ∷ ss → Numeric a → HasPartition (g.marks k pc) sp i →
           Among (g.marks k pc).top (top_colour c) →
-          To (topped (g.marks k pc) (region sp unknown ∷ ss) (top_lies (child_in i c))) (suc pc) →
+          To (topped (g.marks k pc) (region sp unknown ∷ ss) (top_at (child_in i c))) (suc pc) →
           Sound pc (instr.Child i)
       -- the slot may hold a child that is pending
       awaits : (i : ℕ) (s : Shape) → slice_get (g.marks k pc).slots i ≡ Some (awaited s) → Numeric s →

@@ -15,8 +15,8 @@ use Rattle.task_code.specs.declared.code.NeedCode.{NeedCode}
 use Rattle.region_tree.specs.Requirements.{IsWithin}
 use Rattle.machine_terms.specs.declared.value.Value.{Value}
 use Rattle.fit_rules.specs.Fits.{declared_claims, own_claims, root_claims, Program, Covers, made_it, declares_it, reads_and_writes}
-use Rattle.fit_rules.specs.Sound.{Allowed, Through, Effect, does_num, does_load, does_drop, does_compute, does_compare, does_pointers_equal, does_pointers_differ, does_negate, does_wrap, does_invert, does_point, does_is_null, does_assert, does_move, does_element, does_read, does_write, does_reduce, does_fill, does_cast, does_cast_pointer, does_space, does_colors, does_child, does_print}
-use Rattle.marked_code.specs.Marked.{Leads, leads_on, leads_storing, leads_nowhere, leads_back, leads_coloured, leads_child, leads_calling, leads_waiting, leads_making, leads_cutting, leads_colouring, leads_minus, leads_meet, leads_join, leads_image, leads_preimage, Typed, typed_empty, typed_op, typed_both, typed_into, typed_from, typed_and, typed_or, typed_if, typed_branch, typed_loop, typed_rounds, typed_points}
+use Rattle.fit_rules.specs.Sound.{Allowed, Through, Effect, does_num, does_load, does_load_as, does_drop, does_compute, does_compare, does_pointers_equal, does_pointers_differ, does_negate, does_wrap, does_invert, does_point, does_is_null, does_assert, does_move, does_element, does_read, does_write, does_reduce, does_fill, does_cast, does_cast_pointer, does_space, does_colors, does_child, does_print}
+use Rattle.marked_code.specs.Marked.{Leads, leads_on, leads_storing, leads_nowhere, leads_back, leads_coloured, leads_loaded, leads_pointed, leads_child, leads_calling, leads_waiting, leads_making, leads_cutting, leads_colouring, leads_minus, leads_meet, leads_join, leads_image, leads_preimage, Typed, typed_empty, typed_op, typed_both, typed_into, typed_from, typed_and, typed_or, typed_if, typed_branch, typed_loop, typed_rounds, typed_points}
 use Rattle.marked_code.specs.Bodies.{MarksAt}
 
 -- the marks of a list are those of the places from the front
@@ -66,7 +66,8 @@ through_remarked g t ms m sp f a n rs h = (h.0, each_remarked g t ms m sp f a rs
 effect_remarked : (g : Program) (t : TaskCode) (ms : ℕ → ℕ → Mark) (m : Mark) (i : Instr) (ss us : List Shape) →
     Effect g t m i ss us → Effect (remarked g ms) t m i ss us
 effect_remarked g t ms m _ _ _ (does_num z s ss h3) = does_num z s ss h3
-effect_remarked g t ms m _ _ _ (does_load i s ss h3 h4) = does_load i s ss h3 h4
+effect_remarked g t ms m _ _ _ (does_load i s ss h3 h4 h5) = does_load i s ss h3 h4 h5
+effect_remarked g t ms m _ _ _ (does_load_as i a s ss h3 h4 h5) = does_load_as i a s ss h3 h4 h5
 effect_remarked g t ms m _ _ _ (does_drop s ss) = does_drop s ss
 effect_remarked g t ms m _ _ _ (does_compute o w a b ss h5 h6) = does_compute o w a b ss h5 h6
 effect_remarked g t ms m _ _ _ (does_compare c a b ss h4 h5) = does_compare c a b ss h4 h5
@@ -118,6 +119,8 @@ module _ (g : Program) (t : TaskCode) (k : ℕ) (ms : ℕ → ℕ → Mark) (beg
   leads_remarked _ _ _ (leads_nowhere m n lg) = leads_nowhere m n lg
   leads_remarked _ _ _ (leads_back m n a ss e q h lg) = leads_back m n a ss e q h lg
   leads_remarked _ _ _ (leads_coloured m z s h) = leads_coloured m z s h
+  leads_remarked _ _ _ (leads_loaded m i s e h) = leads_loaded m i s e h
+  leads_remarked _ _ _ (leads_pointed m i a ss e n q) = leads_pointed m i a ss e n q
   leads_remarked _ _ _ (leads_child m i sp a ss c e n h q) = leads_child m i sp a ss c e n h q
   leads_remarked _ _ _ (leads_calling m task n callee args rest there p b tk o) =
       leads_calling m task n callee args rest there p b tk (λ x vs st ws r h a.

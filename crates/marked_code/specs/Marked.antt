@@ -6,8 +6,8 @@ use Rattle.task_code.specs.declared.instr.Instr.{Instr}
 use Rattle.task_code.specs.declared.instr.Instr.TheVariants as instr
 use Rattle.code_rules.specs.Pieces.{Piece, empty, op, ◌⨟◌, over, branch, loop, rounds}
 use Rattle.task_code.specs.declared.code.SpaceCode.{SpaceCode}
-use Rattle.fit_rules.specs.Shapes.{Among, Each, Shape, truth, space, region, partition, own_as, unknown, awaited, Numeric, NumberIs}
-use Rattle.fit_rules.specs.Marks.{child_in, Colour, ColoursStand, counts, in_slot, lies, Mark, Into, parted, Stores, stacked, the_colour, top_colour, top_lies, top_parted, topped}
+use Rattle.fit_rules.specs.Shapes.{Among, Each, index, Shape, truth, space, region, partition, own_as, unknown, awaited, Numeric, NumberIs}
+use Rattle.fit_rules.specs.Marks.{child_in, Colour, colour_in, point_in, ColoursStand, counts, in_slot, lies, Mark, Into, parted, Stores, stacked, the_colour, top_colour, top_at, top_parted, topped}
 use Rattle.fit_rules.specs.Fits.{Program}
 use Rattle.fit_rules.specs.Sound.{Allowed, Effect, HasPartition, HasRegion, IsOther, Opens, RoundNumber, RoundPoint, Takes}
 
@@ -26,10 +26,15 @@ module _ (g : Program) (t : TaskCode) (k : ℕ) where
     -- a number that is known
     leads_coloured : (m : Mark) (z : ℤ) (s : Shape) → NumberIs s z →
         Leads m (instr.Num z) (topped m (s ∷ m.stack) (top_colour (the_colour z)))
+    -- one that is known to stand in a slot, and the point of such a pointer
+    leads_loaded : (m : Mark) (i : ℕ) (s : Shape) → slice_get m.slots i ≡ Some s → Numeric s →
+        Leads m (instr.Load i) (topped m (s ∷ m.stack) (top_colour (colour_in i)))
+    leads_pointed : (m : Mark) (i : ℕ) (a : Shape) (ss : List Shape) → m.stack ≡ a ∷ ss → Numeric a → Among m.top (top_colour (colour_in i)) →
+        Leads m instr.Point (topped m (index ∷ ss) (top_colour (point_in i)))
     -- a child, of which is known of which partition it is
     leads_child : (m : Mark) (i : ℕ) (sp : Option ℕ) (a : Shape) (ss : List Shape) (c : Colour) → m.stack ≡ a ∷ ss → Numeric a →
         HasPartition m sp i → Among m.top (top_colour c) →
-        Leads m (instr.Child i) (topped m (region sp unknown ∷ ss) (top_lies (child_in i c)))
+        Leads m (instr.Child i) (topped m (region sp unknown ∷ ss) (top_at (child_in i c)))
     -- a call, whose result may be pending, and where it is waited for
     leads_calling : (m : Mark) (task n : ℕ) (callee : TaskCode) (args rest : List Shape) →
         slice_get g.code.tasks task ≡ Some callee → callee.params ≡ n → 0 < length callee.body →

@@ -1,6 +1,6 @@
 -- Where a program is accepted each task may be looked at by the rules: what is known where it begins is what its clauses
 -- tell, and nothing is told of its body.
-use Rattle.std.proofs.Common.{◌≡◌, ◌⊎◌, inl, inr, ⊎_elim, ℕ, suc, ◌<◌, List, [], ◌∷◌, ◌++◌, map, Bool, true, false, ◌&&◌, ◌||◌, cond, Some, refl, sym, ap, ◌∙◌, subst, arith}
+use Rattle.std.proofs.Common.{◌≡◌, ◌⊎◌, inl, inr, ⊎_elim, ℕ, suc, ◌+◌, ◌<◌, ◌≤◌, Option, List, [], ◌∷◌, ◌++◌, map, Bool, true, false, ◌&&◌, ◌||◌, cond, Some, refl, sym, ap, ◌∙◌, subst, arith}
 use Rattle.std.specs.Prelude.{bytes_eq, length, nat_lt, slice_get}
 use Rattle.std.specs.List.{list_any}
 use Rattle.std.proofs.lemmas.Bool.{and_parts, lt-ltb, not-false, or_left, or_parts, or_right}
@@ -11,6 +11,7 @@ use Rattle.regent_tree.specs.StaticTypes.{Looking, among_params, place_in, type_
 use Rattle.regent_tree.specs.Syntax.{ItemTree, Name, TaskTree, Tree, task_item}
 use Rattle.regent_tree.specs.declared.facts.Known.{Known}
 use Rattle.regent_tree.specs.declared.facts.Known.TheVariants.{Within, Apart}
+use Rattle.regent_tree.specs.declared.facts.Term.{Term}
 use Rattle.regent_tree.specs.declared.facts.Term.TheVariants as term
 use Rattle.regent_tree.specs.declared.program.Clause.{Clause}
 use Rattle.regent_tree.specs.declared.program.Clause.TheVariants as clause
@@ -33,15 +34,15 @@ use Rattle.check_laws.proofs.Bodies.{IsToldNone}
 use Rattle.check_laws.proofs.Places.{places_are_without_breach}
 use Rattle.code_rules.specs.Instructions.{tasks_of}
 use Rattle.code_rules.specs.Programs.{task_code}
-use Rattle.code_laws.proofs.KnownHeads.{head_begins}
+use Rattle.code_laws.proofs.KnownHeads.{head_begins, IsPair, IsPiece, KnowsFacts}
 use Rattle.code_laws.proofs.LocalNames.{first_below}
 use Rattle.code_laws.proofs.LocalTells.{params_tell as parts_tell}
 use Rattle.code_laws.proofs.LocalTrees.{task_stands}
 use Rattle.fit_rules.specs.Shapes.{Among, Each}
 use Rattle.fit_rules.specs.Marks.{apart, Fact, in_slot, lies}
-use Rattle.sound_code.specs.Ways.{by_rules, opening_facts, told_by}
+use Rattle.sound_code.specs.Ways.{none_begun, Tops, by_rules, opening_facts, told_by}
 use Rattle.sound_code.proofs.Declaring.{has_among}
-use Rattle.sound_code.proofs.Grounds.{IsPlaced, IsTold, Kept, OfType, tells_apart, tells_part, tells_within}
+use Rattle.sound_code.proofs.Grounds.{HasSaid, IsPlaced, IsTold, Kept, OfType, with_parts, tells_apart, tells_part, tells_within}
 use Rattle.sound_code.proofs.Told.{ToldBlock}
 use Rattle.expression_laws.proofs.Calls.{flat_has}
 
@@ -84,31 +85,56 @@ params_placed params tree all i [] = tt
 params_placed params tree all i (p ∷ ps) = placed_behind params (bound_params tree all (suc i) ps) _ (params_placed params tree all (suc i) ps)
     (type_placed params i tree (among_params all) p.term)
 
+-- regions of parameters are behind none
+type_said_low : (params i : ℕ) (known : List Known) (tree : Tree) (look : Looking) (t : TypeTerm) → i < params → HasSaid params known (type_said tree look i t)
+type_said_low params i known tree look (typed.Number number.Int32) l = tt
+type_said_low params i known tree look (typed.Number number.Int64) l = tt
+type_said_low params i known tree look (typed.Number (number.Index k)) l = tt
+type_said_low params i known tree look typed.Truth l = tt
+type_said_low params i known tree look (typed.Pointer p) l = tt
+type_said_low params i known tree look (typed.Ispace k) l = tt
+type_said_low params i known tree look (typed.Region k u) l = λ high. absurd (omega (arith, l, high))
+type_said_low params i known tree look (typed.Partition d r c) l = tt
+
+params_said : (params : ℕ) (known : List Known) (tree : Tree) (all : List Param) (i : ℕ) (ps : List Param) → i + length ps ≤ params → (b : Bound) →
+    Has (bound_params tree all i ps) b → HasSaid params known b.static_type
+params_said params known tree all i [] l b h = absurd h
+params_said params known tree all i (p ∷ ps) l b h = ⊎_elim (params_said params known tree all (suc i) ps (omega (arith, l)) b)
+    (λ a. ⊎_elim (λ e. subst (λ (c : Bound). HasSaid params known c.static_type) e (type_said_low params i known tree (among_params all) p.term (omega (arith, l))))
+    (λ none. absurd none) a) (Has-append_cases (bound_params tree all (suc i) ps) _ b h)
+
+abbrev IsNameTerm : Term → Type 0
+IsNameTerm (term.Name i) = Unit {0}
+IsNameTerm (term.Child p c) = ⊥
+
 -- ---- what is known
 
-type_tells : (params : ℕ) (ks : List Fact) (t : StaticType) (k : Known) → Has (known_of_type t) k → IsTold params ks k
-type_tells params ks (partition_type d r p) k (inl e) = subst (IsTold params ks) e (tells_part p r d)
-type_tells params ks (partition_type d r p) k (inr h) = absurd h
-type_tells params ks (integer_type w) k h = absurd h
-type_tells params ks truth_type k h = absurd h
-type_tells params ks (index_type c) k h = absurd h
-type_tells params ks (pointer_type c sp args rs) k h = absurd h
-type_tells params ks (ispace_type c) k h = absurd h
-type_tells params ks (region_type c sp args r) k h = absurd h
-type_tells params ks no_type k h = absurd h
-type_tells params ks unknown_type k h = absurd h
+type_tells : (params : ℕ) (up : ℕ → Option (ℕ × ℕ)) (ks : List Fact) (t : StaticType) (k : Known) → Has (known_of_type t) k → IsTold params up ks k
+type_tells params up ks (partition_type d r p) k (inl e) = subst (IsTold params up ks) e (tells_part p r d)
+type_tells params up ks (partition_type d r p) k (inr h) = absurd h
+type_tells params up ks (integer_type w) k h = absurd h
+type_tells params up ks truth_type k h = absurd h
+type_tells params up ks (index_type c) k h = absurd h
+type_tells params up ks (pointer_type c sp args rs) k h = absurd h
+type_tells params up ks (ispace_type c) k h = absurd h
+type_tells params up ks (region_type c sp args r) k h = absurd h
+type_tells params up ks no_type k h = absurd h
+type_tells params up ks unknown_type k h = absurd h
 
-params_tell : (params : ℕ) (ks : List Fact) (bs : List Bound) (k : Known) → Has (known_of_params bs) k → IsTold params ks k
-params_tell params ks [] k h = absurd h
-params_tell params ks (b ∷ bs) k h = ⊎_elim (params_tell params ks bs k) (type_tells params ks b.static_type k)
+params_tell : (params : ℕ) (up : ℕ → Option (ℕ × ℕ)) (ks : List Fact) (bs : List Bound) (k : Known) → Has (known_of_params bs) k → IsTold params up ks k
+params_tell params up ks [] k h = absurd h
+params_tell params up ks (b ∷ bs) k h = ⊎_elim (params_tell params up ks bs k) (type_tells params up ks b.static_type k)
     (Has-append_cases (known_of_params bs) (known_of_type b.static_type) k h)
 
-module _ (tree : Tree) (t : TaskTree) (h : IsToldNone tree t) where
+module _ (tree : Tree) (t : TaskTree) (h : IsToldNone tree t) (tops : Tops) where
+  abbrev up : ℕ → Option (ℕ × ℕ)
+  up = tops t
+
   abbrev params : ℕ
   params = length t.params
 
   abbrev ks : List Fact
-  ks = opening_facts (by_rules t) tree t
+  ks = opening_facts (by_rules none_begun t) tree t
 
   -- a name of a clause is a parameter
   param_low : (n : Name) → is_no_region (params_bound tree t.params) n ≡ false → place_in t.params n < params
@@ -133,13 +159,13 @@ module _ (tree : Tree) (t : TaskTree) (h : IsToldNone tree t) where
 
   -- what one clause tells
   clause_tells : (c : Clause) → misdeclares tree (params_bound tree t.params) c ≡ false → (k : Known) → Has (known_of_clause t.params c) k →
-      Has (scope_of tree t).known k → IsTold params ks k
+      Has (scope_of tree t).known k → IsTold params up ks k
   clause_tells (clause.Within a b) e k (inl same) there =
       let low = names_low a b e in
       let i = place_in t.params a in
       let j = place_in t.params b in
       let f = lies (in_slot i) (in_slot j) in
-      subst (IsTold params ks) same (tells_within i j low.0 low.1 (fact_among (Within (term.Name i) (term.Name j)) f
+      subst (IsTold params up ks) same (tells_within i j low.0 low.1 (fact_among (Within (term.Name i) (term.Name j)) f
       (subst (Has (scope_of tree t).known) (sym same) there) (told_fact i j f low.0 low.1)))
   clause_tells (clause.Within a b) e k (inr i) there = absurd i
   clause_tells (clause.Apart a b) e k (inl same) there =
@@ -147,13 +173,13 @@ module _ (tree : Tree) (t : TaskTree) (h : IsToldNone tree t) where
       let i = place_in t.params a in
       let j = place_in t.params b in
       let f = apart (in_slot i) (in_slot j) in
-      subst (IsTold params ks) same (tells_apart i j low.0 low.1 (fact_among (Apart (term.Name i) (term.Name j)) f
+      subst (IsTold params up ks) same (tells_apart i j low.0 low.1 (fact_among (Apart (term.Name i) (term.Name j)) f
       (subst (Has (scope_of tree t).known) (sym same) there) (told_fact i j f low.0 low.1)))
   clause_tells (clause.Apart a b) e k (inr i) there = absurd i
   clause_tells (clause.Grants grants places) e k i there = absurd i
 
   clauses_tell : (cs : List Clause) → list_any (misdeclares tree (params_bound tree t.params)) cs ≡ false → (k : Known) → Has (known_of_clauses t.params cs) k →
-      Has (scope_of tree t).known k → IsTold params ks k
+      Has (scope_of tree t).known k → IsTold params up ks k
   clauses_tell [] e k i there = absurd i
   clauses_tell (c ∷ cs) e k i there =
       let parts = or_parts (misdeclares tree (params_bound tree t.params) c) _ e in
@@ -161,21 +187,29 @@ module _ (tree : Tree) (t : TaskTree) (h : IsToldNone tree t) where
       (Has-append_cases (known_of_clause t.params c) (known_of_clauses t.params cs) k i)
 
   -- what is known where the body begins
-  begun : (k : Known) → Has (scope_of tree t).known k → IsTold params ks k
-  begun k i = ⊎_elim (params_tell params ks (scope_of tree t).names k) (λ c. clauses_tell t.clauses h.sound_task.clauses k c i)
+  begun : (k : Known) → Has (scope_of tree t).known k → IsTold params up ks k
+  begun k i = ⊎_elim (params_tell params up ks (scope_of tree t).names k) (λ c. clauses_tell t.clauses h.sound_task.clauses k c i)
       (Has-append_cases (known_of_params (scope_of tree t).names) (known_of_clauses t.params t.clauses) k i)
 
-  pub begins_kept : Kept (task_code tree t) t tree params (scope_of tree t)
-  begins_kept = record {
+  opening_head : KnowsFacts with_parts tree t (scope_of tree t)
+  opening_head = head_begins tree t h.sound_task (parts_tell tree t h.scope.numbers)
+
+  pub begins_kept : ((i : ℕ) (k : ℕ × ℕ) → up i ≡ Some k → k.1 ≤ i) → Kept (task_code tree t) tops t tree params (scope_of tree t)
+  begins_kept falls = record {
     sound = h.sound;
     sound_task = h.sound_task;
     needs = refl;
     many = refl;
     known = begun;
+    begins = λ i p c a. ⊎_elim (λ (q : IsPair tree t (term.Name i) (term.Child p c)). absurd (subst IsNameTerm (sym q.is_upper) tt))
+        (λ (q : IsPiece with_parts t (scope_of tree t) (term.Name i) (term.Child p c)). let high = q.high in let low = q.low in absurd (omega (arith, high, low)))
+        (opening_head.within (term.Name i) (term.Child p c) (Contains-from_Has (scope_of tree t).known _ a));
+    said = λ b a. params_said params (scope_of tree t).known tree t.params 0 t.params (omega arith) b a;
+    falls = falls;
     begun = begun;
     next = omega arith;
     placed = params_placed params tree t.params 0 t.params;
-    head = head_begins tree t h.sound_task (parts_tell tree t h.scope.numbers);
+    head = opening_head;
   }
 
 -- ---- bodies
@@ -187,7 +221,7 @@ stands_in tree k t at =
     (subst (Has (map (λ (i : ItemTree). i.form) tree)) s.2 (Has-map (λ (i : ItemTree). i.form) tree s.0 s.1))
 
 pub body_without_breach : (tree : Tree) → breaches tree ≡ [] → (k : ℕ) (t : TaskTree) → slice_get (tasks_of tree) k ≡ Some t →
-    ToldBlock (by_rules t) tree (scope_of tree t) t.body
+    ToldBlock (by_rules none_begun t) tree (scope_of tree t) t.body
 body_without_breach tree none k t at v h =
     let s = task_stands tree k t at in
     places_are_without_breach tree v none (Contains-from_Has _ v

@@ -1,14 +1,19 @@
 -- The types of arguments that are names or parts of partitions, and the terms that these types have.
-use Rattle.std.proofs.Common.{◌≡◌, ℕ, zero, suc, true, Some, refl, ap, ◌∙◌}
+use Rattle.std.proofs.Common.{◌≡◌, inl, inr, ℕ, zero, suc, List, [], ◌∷◌, Some, true, false, refl, sym, ap, ◌∙◌}
+use Rattle.std.proofs.lemmas.Bool.{eqb-true, false≢true, not-false}
 use Rattle.std.proofs.lemmas.Option.{none-some}
-use Rattle.regent_tree.specs.Facts.{is_name}
+use Rattle.regent_tree.specs.Facts.{are_disjoint, is_subregion}
 use Rattle.regent_tree.specs.Scopes.{bound_as}
 use Rattle.regent_tree.specs.Syntax.{access_expr, an_expr, at_step, Expression, Expressions, Name, no_expr, no_step}
-use Rattle.regent_tree.specs.Typing.{child_type, colour_of, type_of_element}
+use Rattle.regent_tree.specs.Typing.{child_type, colour_of, parent_of, type_of_element}
+use Rattle.regent_tree.proofs.Members.{Has}
+use Rattle.check_rules.specs.rules.Constraints.{are_not_apart, is_not_within}
+use Rattle.check_rules.specs.rules.Partitions.{is_parent}
+use Rattle.check_rules.specs.types.Sorts.{type_at}
+use Rattle.regent_tree.specs.declared.facts.Known.{Known}
 use Rattle.regent_tree.specs.declared.facts.Term.{Term}
 use Rattle.regent_tree.specs.declared.typing.StaticType.{StaticType}
 use Rattle.regent_tree.specs.declared.typing.StaticType.TheVariants.{Integer as integer_type, Truth as truth_type, Index as index_type, Pointer as pointer_type, Ispace as ispace_type, Region as region_type, Partition as partition_type, Nothing as no_type, Unknown as unknown_type}
-use Rattle.check_rules.specs.rules.Partitions.{is_parent}
 use Rattle.code_rules.specs.Slots.{bound, typed, Where}
 use Rattle.code_laws.specs.Simple.{a_partition_type, a_region_type, IsPartition, IsRegion, term_in}
 use Rattle.code_laws.specs.Arguments.{name_at, part_at}
@@ -33,10 +38,6 @@ part_is_at w no_expr k q h = absurd (none-some q h)
 part_is_at w (an_expr e es) zero q h = ap (typed w) (part_is e q h)
 part_is_at w (an_expr e es) (suc k) q h = part_is_at w es k q h
 
--- the term of the region of which a partition is
-pub parent_term : (i : ℕ) (u : StaticType) → IsRegion u → is_parent i u ≡ true → is_name i (term_in u) ≡ true
-parent_term i _ (a_region_type k sp args r) e = e
-
 -- the term of a part: its partition's number and its colour
 pub child_named : (v : StaticType) (r : Term) → IsRegion (child_type v r) → term_in (child_type v r) ≡ r
 child_named (region_type k sp args q) r h = refl
@@ -57,3 +58,44 @@ element_term w _ number e (a_partition_type d r p) own is =
 pub part_term : (w : Where) (n : Name) (e : Expression) → IsPartition (bound w n).static_type → IsScoped w.scope.names (bound w n).number (bound w n).static_type →
     IsRegion (typed w (access_expr n (at_step e no_step))) → term_in (typed w (access_expr n (at_step e no_step))) ≡ term.Child (bound w n).number (colour_of w.scope e)
 part_term w n e is own region = element_term w (bound w n).static_type (bound w n).number e is own region
+
+-- the region of which the partition of a part is
+child_region : (v : StaticType) (r : Term) → IsRegion (child_type v r) → IsRegion v
+child_region (region_type k sp args q) r h = a_region_type k sp args q
+child_region (integer_type w) r h = elim h [ ]
+child_region truth_type r h = elim h [ ]
+child_region (index_type k) r h = elim h [ ]
+child_region (pointer_type k sp args rs) r h = elim h [ ]
+child_region (ispace_type k) r h = elim h [ ]
+child_region (partition_type d q p) r h = elim h [ ]
+child_region no_type r h = elim h [ ]
+child_region unknown_type r h = elim h [ ]
+
+element_parent : (w : Where) (u : StaticType) (e : Expression) → IsPartition u → IsRegion (type_of_element w.scope u e) →
+    IsRegion (bound_as w.scope.names (parent_of u)).static_type
+element_parent w _ e (a_partition_type d r p) h = child_region (bound_as w.scope.names r).static_type (term.Child p (colour_of w.scope e)) h
+
+pub part_parent : (w : Where) (n : Name) (e : Expression) → IsPartition (bound w n).static_type → IsRegion (typed w (access_expr n (at_step e no_step))) →
+    IsRegion (bound_as w.scope.names (parent_of (bound w n).static_type)).static_type
+part_parent w n e is h = element_parent w (bound w n).static_type e is h
+
+-- a partition's type at a place is one of the types
+pub type_has : (ts : List StaticType) (k : ℕ) → IsPartition (type_at ts k) → Has ts (type_at ts k)
+type_has [] zero h = elim h [ ]
+type_has [] (suc k) h = elim h [ ]
+type_has (t ∷ ts) zero h = inl refl
+type_has (t ∷ ts) (suc k) h = inr (type_has ts k h)
+
+-- the region of which a partition is has a name
+pub parent_is : (i : ℕ) (u : StaticType) → IsRegion u → is_parent i u ≡ true → term_in u ≡ term.Name i
+parent_is i _ (a_region_type k sp args (term.Name j)) e = ap term.Name (sym (eqb-true i j e))
+parent_is i _ (a_region_type k sp args (term.Child p c)) e = absurd (false≢true e)
+
+-- of two regions, where nothing is told
+pub lies_within : (known : List Known) (t u : StaticType) → IsRegion t → IsRegion u → is_not_within known t u ≡ false →
+    is_subregion known (term_in t) (term_in u) ≡ true
+lies_within known _ _ (a_region_type k sp args r) (a_region_type l sq brgs q) e = not-false (is_subregion known r q) e
+
+pub lies_apart : (known : List Known) (t u : StaticType) → IsRegion t → IsRegion u → are_not_apart known t u ≡ false →
+    are_disjoint known (term_in t) (term_in u) ≡ true
+lies_apart known _ _ (a_region_type k sp args r) (a_region_type l sq brgs q) e = not-false (are_disjoint known r q) e

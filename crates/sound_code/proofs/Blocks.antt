@@ -4,7 +4,7 @@ use Rattle.std.specs.Prelude.{length}
 use Rattle.regent_tree.specs.declared.statement.How.TheVariants as how
 use Rattle.regent_tree.specs.declared.typing.Bound.{Bound}
 use Rattle.regent_tree.specs.Syntax.{no_step, field_step, at_step, plain_initializer, a_statement, Form, var_form, if_form, while_form, for_in_form, for_to_form, do_form, fill_form, call_form, assert_form, print_form, assign_form, return_form, Block, no_statement, then_statement, Arms, no_arm, an_arm, Otherwise, no_else, else_block}
-use Rattle.regent_tree.specs.Typing.{arithmetic_type, scope_after_block, owned, taken_from, var_type}
+use Rattle.regent_tree.specs.Typing.{arithmetic_type, scope_after, scope_after_block, scope_after_else, owned, taken_from, var_type}
 use Rattle.task_code.specs.declared.code.TaskCode.{TaskCode}
 use Rattle.task_code.specs.declared.instr.Instr.TheVariants as instr
 use Rattle.code_rules.specs.Initializers.{new_place}
@@ -16,6 +16,7 @@ use Rattle.code_laws.proofs.Names.{arms_names, else_names}
 use Rattle.fit_rules.specs.Shapes.{integer, Is}
 use Rattle.fit_rules.specs.Marks.{Mark, stacked}
 use Rattle.fit_rules.specs.Fits.{Program}
+use Rattle.code_laws.proofs.Told.{arms_grow, block_grows, else_grows}
 use Rattle.code_laws.specs.Steps.{Forms}
 use Rattle.code_laws.specs.Typed.{IsIndexed, IsKeepable, IsTyped, element_field, IsTypedForm, AreTypedArms, IsTypedElse, IsTypedBlock}
 use Rattle.fit_rules.specs.Shapes.{index}
@@ -35,6 +36,7 @@ use Rattle.sound_code.proofs.ScopedNames.{said_scoped, scoped_bound, simple_scop
 use Rattle.sound_code.proofs.Pointing.{reduce_behind_marked, set_behind_marked}
 use Rattle.sound_code.proofs.Copies.{begun_marked}
 use Rattle.sound_code.proofs.CutForms.{minus_marked}
+use Rattle.sound_code.proofs.Pieces.{piece_marked}
 use Rattle.sound_code.proofs.Started.{said_started, started}
 use Rattle.sound_code.proofs.Cuts.{cut_plain, cut_same}
 use Rattle.sound_code.proofs.NoCuts.{worth_no_partition}
@@ -43,12 +45,13 @@ use Rattle.sound_code.proofs.Domains.{domain_marked}
 use Rattle.sound_code.proofs.Taken.{looped_parts, taken_scoped}
 use Rattle.sound_code.proofs.Besides.{written_no_child}
 use Rattle.sound_code.proofs.Numbering.{numbered_more}
-use Rattle.sound_code.proofs.Behind.{after_arms_ground, after_block_ground, after_form_ground, counted_simple}
-use Rattle.sound_code.proofs.Grounds.{Ground, facts_more, facts_among, ground_block, ground_looping}
+use Rattle.sound_code.proofs.Behind.{BeginsSo, after_arms_ground, after_block_ground, after_form_ground, counted_simple}
+use Rattle.sound_code.proofs.Grounds.{Ground, facts_more, facts_among}
+use Rattle.sound_code.proofs.Grown.{ground_block, ground_looping}
 use Rattle.sound_code.proofs.Steady.{steady_below}
 use Rattle.sound_code.proofs.Told.{ToldAll, ToldBlock, ToldForm, ToldList, told_arms, told_call_form, told_first, told_head, told_heads, told_listed, told_plain, told_statement}
 use Rattle.sound_code.proofs.Wanting.{may_reduce, may_write, told_index}
-use Rattle.sound_code.proofs.Asked.{Asked, same_names}
+use Rattle.sound_code.proofs.Asked.{begins_under, begins_wholly, Asked, same_names, UpTo, upto_before, upto_inner}
 use Rattle.sound_code.proofs.Calling.{scalar_numeric}
 use Rattle.sound_code.proofs.Combining.{Marked, nothing_done, both, into}
 use Rattle.sound_code.proofs.Elements.{reduces, writes}
@@ -68,6 +71,13 @@ module _ (g : Program) (t : TaskCode) (k slots : ℕ) (have : HasSlots t slots) 
   abbrev At : Where → Mark → Type 0
   At w m = Asked g t k slots forms way w m
 
+  -- how regions begin
+  beginning_at : (w : Where) (m : Mark) → At w m → BeginsSo forms t way w
+  beginning_at w m a = (
+    λ i b. begins_wholly forms t way w.tree i a.hands b,
+    λ keeps i r b l. begins_under forms t way w.tree w.params i r a.params keeps a.hands b l,
+  )
+
   on_the_line : (w : Where) (m : Mark) (line : ℕ) → At w m → At (on_line w line) m
   on_the_line w m line a = record {
     hands = a.hands;
@@ -81,12 +91,13 @@ module _ (g : Program) (t : TaskCode) (k slots : ℕ) (have : HasSlots t slots) 
     ruled = a.ruled;
     scoped = a.scoped;
     cut = a.cut;
+    upto = a.upto;
   }
 
   -- in a scope of the same names where no less is known
-  asked_in : (w : Where) (m : Mark) (s : Scope) → s.names ≡ w.scope.names → Ground t way w.tree w.params s → At w m →
+  asked_in : (w : Where) (m : Mark) (s : Scope) → s.names ≡ w.scope.names → Ground t way w.tree w.params s → UpTo way w.tree s → At w m →
       At (record w { scope = s }) m
-  asked_in w m s e h a = record {
+  asked_in w m s e h up a = record {
     hands = a.hands;
     ready = same_names way w.params _ _ m (sym e) a.ready;
     params = a.params;
@@ -97,19 +108,21 @@ module _ (g : Program) (t : TaskCode) (k slots : ℕ) (have : HasSlots t slots) 
     facts = a.facts;
     ruled = a.ruled;
     scoped = subst (Scoped forms.keeps way) (sym e) a.scoped;
-    cut = cut_same forms.keeps way w.params m.facts _ _ (sym e) a.cut;
+    cut = cut_same forms.keeps way w.tree w.params m.facts _ _ (sym e) a.cut;
+    upto = up;
   }
 
   mutual
     pub form_marked : (w : Where) (m : Mark) (form : Form) → IsTypedForm forms w form → Asks forms.keeps (is_whole_form true w form) → At w m → ToldForm way w.tree w.scope form →
-        ToldAll way w.tree (λ task. meant_within w.tree task w.scope form) → (pc : ℕ) →
-        Stands t.body pc (form_code w form) → Followed g t k forms.keeps way w.params (after_form w form).scope.names m (form_code w form)
-    form_marked w m (var_form x None (Some (plain_initializer e))) f whole a told within pc st =
+        ToldAll way w.tree (λ task. meant_within w.tree task w.scope form) → UpTo way w.tree (scope_after w.tree w.scope form) → (pc : ℕ) →
+        Stands t.body pc (form_code w form) → Followed g t k forms.keeps way w.tree w.params (after_form w form).scope.names m (form_code w form)
+    form_marked w m (var_form x None (Some (plain_initializer e))) f whole a told within up pc st =
         ⊎_elim (λ (begun : (IsKeepable forms.keeps w e × IsTyped forms w e) × Asks forms.keeps (is_value true (owned w.scope.next (typed w e)) && is_whole_expression true w e)).
         begun_marked g t k slots have forms way w m a x e told begun.0.0 begun.0.1 begun.1 pc st)
-        (λ d. minus_marked g t k slots have forms way w m a x e told d.0 d.1 (stored g t k slots have forms way w m a _ _ st.1))
+        (λ d. ⊎_elim (λ minus. minus_marked g t k slots have forms way w m a x e told d.0 minus (stored g t k slots have forms way w m a _ _ st.1))
+        (λ part. piece_marked g t k slots have forms way w m a x e told up d.0 part.0 part.1 pc st (stored g t k slots have forms way w m a _ _ st.1)) d.1)
         (begun_whole forms.keeps forms.takes w e (is_whole_expression true w e) (IsTyped forms w e) (IsIndexed forms w e) f whole)
-    form_marked w m (var_form x (Some term) (Some (plain_initializer e))) f whole a told within pc st =
+    form_marked w m (var_form x (Some term) (Some (plain_initializer e))) f whole a told within up pc st =
         let inside = asks_second forms.keeps _ (is_whole_expression true w e) whole in
         let u = var_type w.tree w.scope (Some term) (Some (plain_initializer e)) in
         let begins = beginning forms.keeps w.scope.names (typed w e) u f.0 in
@@ -125,7 +138,7 @@ module _ (g : Program) (t : TaskCode) (k slots : ℕ) (have : HasSlots t slots) 
         (told_plain way forms w e f.1 inside (told_heads w.tree w.scope way (var_form x (Some term) (Some (plain_initializer e))) told)) pc st.0.0)
         (converted_marked g t k slots have forms way w m a _ _ [] (begins_becomes w.scope.names _ u begins) (worth_few u is)))
         (stored g t k slots have forms way w m a _ _ st.1)
-    form_marked w m (var_form x (Some term) None) f whole a told within pc st =
+    form_marked w m (var_form x (Some term) None) f whole a told within up pc st =
         let u = var_type w.tree w.scope (Some term) None in
         let zero = zeroed forms.keeps w.scope.names u f in
         let is = zero_worth forms.keeps w.scope.names u f whole in
@@ -137,25 +150,26 @@ module _ (g : Program) (t : TaskCode) (k slots : ℕ) (have : HasSlots t slots) 
         (written_no_child w.tree w.scope w.scope.next term)
         (begin_marked g t k slots have forms way w m a u zero)
         (stored g t k slots have forms way w m a _ _ st.1)
-    form_marked w m (if_form arms other) f whole a told within pc st = record {
+    form_marked w m (if_form arms other) f whole a told within up pc st = record {
       next = m;
       is = arms_marked w w m arms (else_code (after_arms w arms) other) f.0 (asks_first _ _ _ whole) a a (told_heads w.tree w.scope way (if_form arms other) told)
-          (parts_told w.tree way w.scope arms other within).0 pc st
+          (parts_told w.tree way w.scope arms other within).0 (upto_before way w.tree _ _ (else_grows w.tree (scope_after_arms w.tree w.scope arms) other) up) pc st
           (λ q s. else_marked (after_arms w arms) m other f.1 (asks_second _ _ _ whole)
           (asked_in w m (scope_after_arms w.tree w.scope arms) (arms_names w.tree w.scope arms)
-          (after_arms_ground forms t way w w arms f.0 (asks_first _ _ _ whole) a.ground) a) (parts_told w.tree way w.scope arms other within).1 q s);
+          (after_arms_ground forms t way w w arms f.0 (asks_first _ _ _ whole) (beginning_at w m a) a.ground)
+          (upto_before way w.tree _ _ (else_grows w.tree (scope_after_arms w.tree w.scope arms) other) up) a) (parts_told w.tree way w.scope arms other within).1 up q s);
       ready = same_names way w.params _ _ m
           (sym (else_names w.tree (after_arms w arms).scope other ∙ arms_names w.tree w.scope arms)) a.ready;
       narrower = narrow_itself m.slots;
       facts = λ l h. h;
-      cut = cut_same forms.keeps way w.params m.facts _ _ (sym (else_names w.tree (after_arms w arms).scope other ∙ arms_names w.tree w.scope arms)) a.cut;
+      cut = cut_same forms.keeps way w.tree w.params m.facts _ _ (sym (else_names w.tree (after_arms w arms).scope other ∙ arms_names w.tree w.scope arms)) a.cut;
       scoped = subst (Scoped forms.keeps way) (sym (else_names w.tree (after_arms w arms).scope other ∙ arms_names w.tree w.scope arms)) a.scoped;
     }
-    form_marked w m (while_form test body) f whole a told within pc st = unchanged g t k forms.keeps way _ _ m _ a.ready a.scoped a.cut
+    form_marked w m (while_form test body) f whole a told within up pc st = unchanged g t k forms.keeps way w.tree _ _ m _ a.ready a.scoped a.cut
         (while_marked g t k slots have forms way w m a test (block_code w body) f.0 f.1 (asks_first _ _ _ whole)
         (told_head w.tree w.scope way (while_form test body) test refl told) _ st.3
-        (closed_block g t k forms.keeps way _ _ m _ (block_marked w m body f.2 (asks_second _ _ _ whole) a within _ st.2)))
-    form_marked w m (for_to_form demanded x from to body) f whole a told within pc st =
+        (closed_block g t k forms.keeps way w.tree _ _ m _ (block_marked w m body f.2 (asks_second _ _ _ whole) a within (upto_inner way w.tree w.scope _ up) _ st.2)))
+    form_marked w m (for_to_form demanded x from to body) f whole a told within up pc st =
         let u = typed w from in
         let v = typed w to in
         let wd = widens u v f.0 f.1 in
@@ -171,6 +185,7 @@ module _ (g : Program) (t : TaskCode) (k slots : ℕ) (have : HasSlots t slots) 
         } in
         let hi : beside w (new_place w) < length m.slots = stored g t k slots have forms way w m a _ _ st.1.1.0 in
         let lw = looping w x (arithmetic_type u v) in
+        let end = upto_inner way w.tree w.scope (scope_after_block w.tree lw.scope body) up in
         let rm = numbers.round g t k way w.params bs m a.ready a.params wd.width hi in
         let hm = numbers.head g t k way w.params bs m a.ready a.params wd.width hi in
         let inner = block_marked lw rm body f.4 (asks_second _ _ _ rest) (record {
@@ -189,17 +204,18 @@ module _ (g : Program) (t : TaskCode) (k slots : ℕ) (have : HasSlots t slots) 
               (λ all. simple_scoped w.scope.names w.scope.next (arithmetic_type u v) (counted_simple u v f.0 f.1));
           cut = cut_plain forms.keeps way w.tree w.scope (for_to_form demanded x from to body) b w.params m.facts m.facts refl told (λ l h. h) a.cut
               (worth_no_partition _ (worth_simple _ (counted_simple u v f.0 f.1)));
-        }) within _ st.1.1.1.1.1 in
+          upto = upto_before way w.tree _ _ (block_grows w.tree lw.scope body) end;
+        }) within end _ st.1.1.1.1.1 in
         let first = told_first w.tree w.scope way from (to ∷ []) (told_heads w.tree w.scope way (for_to_form demanded x from to body) told) in
         let second = told_first w.tree w.scope way to [] first.1 in
         let narrow = narrow_then _ _ _ inner.narrower (round_narrow way w.params bs m a.ready i i i m.facts hi) in
-        unchanged g t k forms.keeps way _ _ m _ a.ready a.scoped a.cut
+        unchanged g t k forms.keeps way w.tree _ _ m _ a.ready a.scoped a.cut
         (both g t k (value_marked g t k slots have forms way w m a from [] f.2 (asks_first _ _ _ whole) first.0 pc st.0)
         (both g t k (value_marked g t k slots have forms way w m a to (shape_of u ∷ []) f.3 (asks_first _ _ _ rest) second.0 _ st.1.0)
         (numbers.counted g t k way w.params bs m a.ready a.params wd.width hi (shape_of u) (shape_of v) w.line
         (block_code lw body) wd.left wd.right
-        (into g t k inner.is (narrow_into t.params inner.next hm [] narrow (fewer_facts m.facts inner.next.facts inner.facts)) (sym (narrow_long _ _ narrow))))))
-    form_marked w m (for_in_form demanded x domain body) looped whole a told within pc st =
+        (into g t k inner.is (narrow_into t.params inner.next hm narrow (fewer_facts m.facts inner.next.facts inner.facts)) (sym (narrow_long _ _ narrow))))))
+    form_marked w m (for_in_form demanded x domain body) looped whole a told within up pc st =
         let u = typed w domain in
         let f = looped_parts forms.keeps w domain _ _ _ looped in
         let over = domain_marked g t k slots have forms way w m a domain f.0 (asks_first _ _ _ whole)
@@ -215,6 +231,7 @@ module _ (g : Program) (t : TaskCode) (k slots : ℕ) (have : HasSlots t slots) 
         } in
         let hi : beside w (new_place w) < length m.slots = stored g t k slots have forms way w m a _ _ st.1.0 in
         let lw = looping w x (taken_from u) in
+        let end = upto_inner way w.tree w.scope (scope_after_block w.tree lw.scope body) up in
         let rm = points.round g t k way w.params bs m a.ready a.params hi tk.D tk.V tk.ptr tk.domain in
         let hm = points.head g t k way w.params bs m a.ready a.params hi tk.D tk.V tk.ptr tk.domain in
         let fs = points.counting g t k way w.params bs m a.ready a.params hi tk.D tk.V tk.ptr tk.domain in
@@ -234,30 +251,31 @@ module _ (g : Program) (t : TaskCode) (k slots : ℕ) (have : HasSlots t slots) 
               (λ all. taken_scoped forms.keeps w domain w.scope.next _ _ f.0);
           cut = cut_plain forms.keeps way w.tree w.scope (for_in_form demanded x domain body) b w.params m.facts fs refl told (λ l h. inr h) a.cut
               (worth_no_partition _ tk.worth);
-        }) within _ st.1.1.1.1.1 in
+          upto = upto_before way w.tree _ _ (block_grows w.tree lw.scope body) end;
+        }) within end _ st.1.1.1.1.1 in
         let narrow = narrow_then _ _ _ inner.narrower (round_narrow way w.params bs m a.ready tk.D index tk.V fs hi) in
-        unchanged g t k forms.keeps way _ _ m _ a.ready a.scoped a.cut
+        unchanged g t k forms.keeps way w.tree _ _ m _ a.ready a.scoped a.cut
         (both g t k over.is
         (subst (λ p. Marked g t k (stacked m (tk.D ∷ [])) (over_points w x u body p) (stacked m [])) (sym tk.is_ptr)
         (points.counted g t k way w.params bs m a.ready a.params hi tk.D tk.V tk.ptr tk.domain w.line (block_code lw body)
-        (into g t k inner.is (narrow_into t.params inner.next hm [] narrow (fewer_facts fs inner.next.facts inner.facts)) (sym (narrow_long _ _ narrow))))))
-    form_marked w m (do_form body) f whole a told within pc st = unchanged g t k forms.keeps way _ _ m _ a.ready a.scoped a.cut
-        (closed_block g t k forms.keeps way _ _ m _ (block_marked w m body f whole a within pc st))
-    form_marked w m (fill_form r fields e) f whole a told within pc st = fill_marked g t k slots have forms way w m a r fields e f.0 whole told f.1 f.2 f.3 pc st
-    form_marked w m (call_form task args) f whole a told within pc st = call_marked g t k slots have forms way w m a task args f.1 f.2 whole (told_call_form w.tree w.scope way task args told)
+        (into g t k inner.is (narrow_into t.params inner.next hm narrow (fewer_facts fs inner.next.facts inner.facts)) (sym (narrow_long _ _ narrow))))))
+    form_marked w m (do_form body) f whole a told within up pc st = unchanged g t k forms.keeps way w.tree _ _ m _ a.ready a.scoped a.cut
+        (closed_block g t k forms.keeps way w.tree _ _ m _ (block_marked w m body f whole a within (upto_inner way w.tree w.scope _ up) pc st))
+    form_marked w m (fill_form r fields e) f whole a told within up pc st = fill_marked g t k slots have forms way w m a r fields e f.0 whole told f.1 f.2 f.3 pc st
+    form_marked w m (call_form task args) f whole a told within up pc st = call_marked g t k slots have forms way w m a task args f.1 f.2 whole (told_call_form w.tree w.scope way task args told)
         (told_listed w.tree w.scope way args (told_heads w.tree w.scope way (call_form task args) told)) pc st
-    form_marked w m (assert_form e) f whole a told within pc st = assert_marked g t k slots have forms way w m a e f.0 f.1 whole
+    form_marked w m (assert_form e) f whole a told within up pc st = assert_marked g t k slots have forms way w m a e f.0 f.1 whole
         (told_head w.tree w.scope way (assert_form e) e refl told) pc st.0
-    form_marked w m (print_form alias format args) f whole a told within pc st = print_marked g t k slots have forms way w m a alias format args f.0 whole
+    form_marked w m (print_form alias format args) f whole a told within up pc st = print_marked g t k slots have forms way w m a alias format args f.0 whole
         (told_listed w.tree w.scope way args (told_heads w.tree w.scope way (print_form alias format args) told)) f.1 pc st
-    form_marked w m (assign_form x no_step how.Set e) f whole a told within pc st =
+    form_marked w m (assign_form x no_step how.Set e) f whole a told within up pc st =
         assign_marked g t k slots have forms way w m a x e (assigned_becomes _ _ (assigned forms.keeps _ _ f.0)) (set_worth forms.keeps _ _ f.0 (asks_first _ _ _ whole)) f.1 (asks_second _ _ _ whole)
         (told_head w.tree w.scope way (assign_form x no_step how.Set e) e refl told) f.2 (stored g t k slots have forms way w m a _ _ st.1) pc st.0.0
-    form_marked w m (assign_form x no_step (how.Reduce o) e) f whole a told within pc st =
-        unchanged g t k forms.keeps way _ _ m _ a.ready a.scoped a.cut (both g t k (value_marked g t k slots have forms way w m a e [] f.2 (asks_second _ _ _ whole)
+    form_marked w m (assign_form x no_step (how.Reduce o) e) f whole a told within up pc st =
+        unchanged g t k forms.keeps way w.tree _ _ m _ a.ready a.scoped a.cut (both g t k (value_marked g t k slots have forms way w m a e [] f.2 (asks_second _ _ _ whole)
         (told_head w.tree w.scope way (assign_form x no_step (how.Reduce o) e) e refl told) pc st.0)
         (folded g t k slots have forms way w m x o (shape_of (typed w e)) (bound w x).static_type refl (scalar_numeric _ (integer_is_plain _ f.0)) f.1 f.3 a _ st.1))
-    form_marked w m (assign_form x (at_step e (field_step l no_step)) how.Set y) f whole a told within pc st =
+    form_marked w m (assign_form x (at_step e (field_step l no_step)) how.Set y) f whole a told within up pc st =
         let field = any_field forms.keeps w x l _ f.5 in
         let number = counting forms.keeps _ f.3 in
         let one = asks_first forms.keeps (is_whole_expression true w e) _ whole in
@@ -266,7 +284,7 @@ module _ (g : Program) (t : TaskCode) (k slots : ℕ) (have : HasSlots t slots) 
         let out = element_field w x e l in
         let u = (bound w x).static_type in
         let here = named_at way w.params m.slots w.scope.names x a.ready.named field.named in
-        unchanged g t k forms.keeps way _ _ m _ a.ready a.scoped a.cut
+        unchanged g t k forms.keeps way w.tree _ _ m _ a.ready a.scoped a.cut
         (both g t k (both g t k (value_marked g t k slots have forms way w m a y [] f.1 two
         (told_head w.tree w.scope way (assign_form x (at_step e (field_step l no_step)) how.Set y) y refl told) pc st.0.0)
         (converted_marked g t k slots have forms way w m a _ _ [] goes (field_few _ _ _ field.keeps)))
@@ -274,7 +292,7 @@ module _ (g : Program) (t : TaskCode) (k slots : ℕ) (have : HasSlots t slots) 
         (touched g t k slots have forms way w m a x l _ access.Write field (may_write w x e l number field.region t way a.ground y told))
         (λ q s. value_marked g t k slots have forms way w m a e (shape_of out ∷ []) f.2 one
         (told_index w x e l number field.region t way a.ground how.Set y told) q s) _ st.1))
-    form_marked w m (assign_form x (at_step e (field_step l no_step)) (how.Reduce o) y) f whole a told within pc st =
+    form_marked w m (assign_form x (at_step e (field_step l no_step)) (how.Reduce o) y) f whole a told within up pc st =
         let field = any_field forms.keeps w x l _ f.6 in
         let number = counting forms.keeps _ f.4 in
         let one = asks_first forms.keeps (is_whole_expression true w e) _ whole in
@@ -282,7 +300,7 @@ module _ (g : Program) (t : TaskCode) (k slots : ℕ) (have : HasSlots t slots) 
         let out = element_field w x e l in
         let u = (bound w x).static_type in
         let here = named_at way w.params m.slots w.scope.names x a.ready.named field.named in
-        unchanged g t k forms.keeps way _ _ m _ a.ready a.scoped a.cut
+        unchanged g t k forms.keeps way w.tree _ _ m _ a.ready a.scoped a.cut
         (both g t k (value_marked g t k slots have forms way w m a y [] f.2 two
         (told_head w.tree w.scope way (assign_form x (at_step e (field_step l no_step)) (how.Reduce o) y) y refl told) pc st.0)
         (reduces g t k way w m a.known u (bound w x).place e l out [] field.region (region_named way w.params m (slot_named w x) u field.region here) number f.5 field.keeps
@@ -290,65 +308,67 @@ module _ (g : Program) (t : TaskCode) (k slots : ℕ) (have : HasSlots t slots) 
         (touched g t k slots have forms way w m a x l _ (access.Reduce o) field (may_reduce w x e l number field.region t way a.ground o y told))
         (λ q s. value_marked g t k slots have forms way w m a e (shape_of (typed w y) ∷ []) f.3 one
         (told_index w x e l number field.region t way a.ground (how.Reduce o) y told) q s) _ st.1))
-    form_marked w m (return_form None) f whole a told within pc st = unchanged g t k forms.keeps way _ _ m _ a.ready a.scoped a.cut (record {
+    form_marked w m (return_form None) f whole a told within up pc st = unchanged g t k forms.keeps way w.tree _ _ m _ a.ready a.scoped a.cut (record {
       marks = _;
       is = typed_op (stacked m []) (stacked m []) instr.Return w.line (leads_nowhere _ _ refl);
     })
-    form_marked w m (return_form (Some e)) f whole a told within pc st = return_marked g t k slots have forms way w m a e f.0 f.1 whole
+    form_marked w m (return_form (Some e)) f whole a told within up pc st = return_marked g t k slots have forms way w m a e f.0 f.1 whole
         (told_head w.tree w.scope way (return_form (Some e)) e refl told) pc st.0
-    form_marked w m (assign_form x (field_step l no_step) how.Set y) f whole a told within pc st = unchanged g t k forms.keeps way _ _ m _ a.ready a.scoped a.cut
+    form_marked w m (assign_form x (field_step l no_step) how.Set y) f whole a told within up pc st = unchanged g t k forms.keeps way w.tree _ _ m _ a.ready a.scoped a.cut
         (both g t k (both g t k (value_marked g t k slots have forms way w m a y [] f.2 whole
         (told_head w.tree w.scope way (assign_form x (field_step l no_step) how.Set y) y refl told) pc st.0.0)
         (converted_marked g t k slots have forms way w m a _ _ [] (assigned_becomes _ _ f.1) (field_few _ _ _ (f.3).keeps)))
         (set_behind_marked g t k slots forms way w m a x l y f.0 f.3 told))
-    form_marked w m (assign_form x (field_step l no_step) (how.Reduce o) y) f whole a told within pc st = unchanged g t k forms.keeps way _ _ m _ a.ready a.scoped a.cut
+    form_marked w m (assign_form x (field_step l no_step) (how.Reduce o) y) f whole a told within up pc st = unchanged g t k forms.keeps way w.tree _ _ m _ a.ready a.scoped a.cut
         (both g t k (value_marked g t k slots have forms way w m a y [] f.3 whole
         (told_head w.tree w.scope way (assign_form x (field_step l no_step) (how.Reduce o) y) y refl told) pc st.0)
         (reduce_behind_marked g t k slots forms way w m a x l o y (shape_of (typed w y)) f.0 (scalar_numeric _ (integer_is_plain _ f.1)) f.2 f.4 told))
-    form_marked w m (var_form x None (Some start)) f whole a told within pc st = started g t k slots have forms way w m a x start f whole told pc st
-    form_marked w m (var_form x (Some said) (Some start)) f whole a told within pc st =
+    form_marked w m (var_form x None (Some start)) f whole a told within up pc st = started g t k slots have forms way w m a x start f whole told pc st
+    form_marked w m (var_form x (Some said) (Some start)) f whole a told within up pc st =
         said_started g t k slots have forms way w m a x said start f.1 f.2 whole told pc st
-    form_marked w m (assign_form x (field_step l (field_step e rest)) how.Set y) f whole a told within pc st = unchanged g t k forms.keeps way _ _ m _ a.ready a.scoped a.cut
+    form_marked w m (assign_form x (field_step l (field_step e rest)) how.Set y) f whole a told within up pc st = unchanged g t k forms.keeps way w.tree _ _ m _ a.ready a.scoped a.cut
         (behind_set g t k slots have forms way w m a f.0 x l e rest y f whole (told_head w.tree w.scope way (assign_form x (field_step l (field_step e rest)) how.Set y) y refl told) told pc st)
-    form_marked w m (assign_form x (field_step l (field_step e rest)) (how.Reduce o) y) f whole a told within pc st = unchanged g t k forms.keeps way _ _ m _ a.ready a.scoped a.cut
+    form_marked w m (assign_form x (field_step l (field_step e rest)) (how.Reduce o) y) f whole a told within up pc st = unchanged g t k forms.keeps way w.tree _ _ m _ a.ready a.scoped a.cut
         (behind_reduced g t k slots have forms way w m a f.0 x l e rest o y f whole (told_head w.tree w.scope way (assign_form x (field_step l (field_step e rest)) (how.Reduce o) y) y refl told) told pc st)
-    form_marked w m (assign_form x (at_step i (field_step l (field_step e rest))) how.Set y) f whole a told within pc st = unchanged g t k forms.keeps way _ _ m _ a.ready a.scoped a.cut
+    form_marked w m (assign_form x (at_step i (field_step l (field_step e rest))) how.Set y) f whole a told within up pc st = unchanged g t k forms.keeps way w.tree _ _ m _ a.ready a.scoped a.cut
         (point_set g t k slots have forms way w m a f.0 x i l e rest y f (asks_first _ _ _ whole) (asks_second _ _ _ whole) (told_head w.tree w.scope way (assign_form x (at_step i (field_step l (field_step e rest))) how.Set y) y refl told) told pc st)
-    form_marked w m (assign_form x (at_step i (field_step l (field_step e rest))) (how.Reduce o) y) f whole a told within pc st = unchanged g t k forms.keeps way _ _ m _ a.ready a.scoped a.cut
+    form_marked w m (assign_form x (at_step i (field_step l (field_step e rest))) (how.Reduce o) y) f whole a told within up pc st = unchanged g t k forms.keeps way w.tree _ _ m _ a.ready a.scoped a.cut
         (point_reduced g t k slots have forms way w m a f.0 x i l e rest o y f (asks_first _ _ _ whole) (asks_second _ _ _ whole) (told_head w.tree w.scope way (assign_form x (at_step i (field_step l (field_step e rest))) (how.Reduce o) y) y refl told) told pc st)
-    form_marked w m _ f whole a told within pc st = absurd f
+    form_marked w m _ f whole a told within up pc st = absurd f
 
     arms_marked : (own w : Where) (m : Mark) (arms : Arms) (other : Piece) → AreTypedArms forms own w arms → Asks forms.keeps (are_whole_arms true own w arms) → At own m →
-        At w m → ToldList way own.tree own.scope (tests_of arms) → ToldAll way w.tree (λ task. meant_in_arms w.tree task w.scope arms) → (pc : ℕ) →
+        At w m → ToldList way own.tree own.scope (tests_of arms) → ToldAll way w.tree (λ task. meant_in_arms w.tree task w.scope arms) → UpTo way w.tree (scope_after_arms w.tree w.scope arms) → (pc : ℕ) →
         Stands t.body pc (arms_code own w arms other) →
         ((q : ℕ) → Stands t.body q other → Marked g t k (stacked m []) other (stacked m [])) →
         Marked g t k (stacked m []) (arms_code own w arms other) (stacked m [])
-    arms_marked own w m no_arm other f whole o a tests within pc st more = more pc st
-    arms_marked own w m (an_arm test body rest) other f whole o a tests within pc st more =
+    arms_marked own w m no_arm other f whole o a tests within up pc st more = more pc st
+    arms_marked own w m (an_arm test body rest) other f whole o a tests within up pc st more =
         let later = asks_second forms.keeps _ (is_whole_block true w body && are_whole_arms true own (after_arm w body) rest) whole in
         let first = told_first own.tree own.scope way test (tests_of rest) tests in
         let parts = told_arms w.tree way w.scope test body rest within in
         let inner = scope_after_block w.tree w.scope body in
+        let behind = upto_before way w.tree (past w.scope inner) _ (arms_grow w.tree (past w.scope inner) rest) up in
         branch_marked g t k slots have forms way own m o w.line test (block_code w body) (arms_code own (after_arm w body) rest other) f.0 f.1 (asks_first _ _ _ whole) first.0 pc st.0
-        (closed_block g t k forms.keeps way _ _ m _ (block_marked w m body f.2 (asks_first _ _ _ later) a parts.0 _ st.1.1))
+        (closed_block g t k forms.keeps way w.tree _ _ m _ (block_marked w m body f.2 (asks_first _ _ _ later) a parts.0 (upto_inner way w.tree w.scope inner behind) _ st.1.1))
         (arms_marked own (after_arm w body) m rest other f.3 (asks_second _ _ _ later) o
         (asked_in w m (past w.scope inner) refl
-        (ground_block t w.tree w.params way w.scope body a.ground (after_block_ground forms t way w body f.2 (asks_first _ _ _ later) a.ground)) a)
-        first.1 parts.1 _ st.1.3 more)
+        (ground_block t w.tree w.params way w.scope body a.ground (after_block_ground forms t way w body f.2 (asks_first _ _ _ later) (beginning_at w m a) a.ground)) behind a)
+        first.1 parts.1 up _ st.1.3 more)
 
     else_marked : (w : Where) (m : Mark) (other : Otherwise) → IsTypedElse forms w other → Asks forms.keeps (is_whole_else true w other) → At w m →
-        ToldAll way w.tree (λ task. meant_in_else w.tree task w.scope other) → (pc : ℕ) →
+        ToldAll way w.tree (λ task. meant_in_else w.tree task w.scope other) → UpTo way w.tree (scope_after_else w.tree w.scope other) → (pc : ℕ) →
         Stands t.body pc (else_code w other) → Marked g t k (stacked m []) (else_code w other) (stacked m [])
-    else_marked w m no_else f whole a within pc st = nothing_done g t k _
-    else_marked w m (else_block body) f whole a within pc st =
-        closed_block g t k forms.keeps way _ _ m _ (block_marked w m body f whole a within pc st)
+    else_marked w m no_else f whole a within up pc st = nothing_done g t k _
+    else_marked w m (else_block body) f whole a within up pc st =
+        closed_block g t k forms.keeps way w.tree _ _ m _ (block_marked w m body f whole a within (upto_inner way w.tree w.scope _ up) pc st)
 
-    pub block_marked : (w : Where) (m : Mark) (b : Block) → IsTypedBlock forms w b → Asks forms.keeps (is_whole_block true w b) → At w m → ToldBlock way w.tree w.scope b → (pc : ℕ) →
-        Stands t.body pc (block_code w b) → Followed g t k forms.keeps way w.params (scope_after_block w.tree w.scope b).names m (block_code w b)
-    block_marked w m no_statement f whole a told pc st = unchanged g t k forms.keeps way _ _ m _ a.ready a.scoped a.cut (nothing_done g t k _)
-    block_marked w m (then_statement (a_statement line form) rest) f whole a told pc st =
+    pub block_marked : (w : Where) (m : Mark) (b : Block) → IsTypedBlock forms w b → Asks forms.keeps (is_whole_block true w b) → At w m → ToldBlock way w.tree w.scope b → UpTo way w.tree (scope_after_block w.tree w.scope b) → (pc : ℕ) →
+        Stands t.body pc (block_code w b) → Followed g t k forms.keeps way w.tree w.params (scope_after_block w.tree w.scope b).names m (block_code w b)
+    block_marked w m no_statement f whole a told up pc st = unchanged g t k forms.keeps way w.tree _ _ m _ a.ready a.scoped a.cut (nothing_done g t k _)
+    block_marked w m (then_statement (a_statement line form) rest) f whole a told up pc st =
         let parts = told_statement w.tree way w.scope line form rest told in
-        let one = form_marked (on_line w line) m form f.0 (asks_first _ _ _ whole) (on_the_line w m line a) parts.0 parts.1 pc st.0 in
+        let behind = upto_before way w.tree _ _ (block_grows w.tree (scope_after w.tree w.scope form) rest) up in
+        let one = form_marked (on_line w line) m form f.0 (asks_first _ _ _ whole) (on_the_line w m line a) parts.0 parts.1 behind pc st.0 in
         let two = block_marked (after_form w form) one.next rest f.1 (asks_second _ _ _ whole)
         (record {
           hands = a.hands;
@@ -357,12 +377,13 @@ module _ (g : Program) (t : TaskCode) (k slots : ℕ) (have : HasSlots t slots) 
           result = a.result;
           room = narrow_long _ _ one.narrower ∙ a.room;
           known = a.known;
-          ground = after_form_ground forms t way (on_line w line) form f.0 (asks_first _ _ _ whole) a.ground;
+          ground = after_form_ground forms t way (on_line w line) form f.0 (asks_first _ _ _ whole) (beginning_at w m a) a.ground;
           facts = facts_among way w.tree _ _ one.facts a.facts;
           ruled = a.ruled;
           scoped = one.scoped;
           cut = one.cut;
-        }) parts.2 _ st.1 in
+          upto = behind;
+        }) parts.2 up _ st.1 in
         record {
           next = two.next;
           is = both g t k one.is two.is;

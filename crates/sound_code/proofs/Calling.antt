@@ -27,13 +27,13 @@ use Rattle.code_laws.specs.Arguments.{AreMet, IsMetAt}
 use Rattle.code_laws.specs.Typed.{ArePassed, IsIndexed, IsTyped}
 use Rattle.code_laws.proofs.Openings.{params_length, types_length}
 use Rattle.fit_rules.specs.Shapes.{Each, Shape, anything, Numeric, numeric_integer, numeric_truth, World, Is, is_anything, is_number, is_space, Are, are_none, are_more}
-use Rattle.fit_rules.specs.Marks.{Mark, Suits}
+use Rattle.fit_rules.specs.Marks.{Mark, Suits, around}
 use Rattle.fit_rules.specs.Fits.{claims, declared_claims, Program}
 use Rattle.fit_rules.specs.Ends.{called, IsNeeded}
 use Rattle.fit_rules.specs.Sound.{Opens, Settled, Takes, takes_none, takes_more, settled_number}
 use Rattle.fit_laws.proofs.Lookup.{as_long}
 use Rattle.sound_code.specs.Ways.{Way, all_made, by_rules, opening_facts, shape_in, shape_of, told_by}
-use Rattle.sound_code.specs.Named.{IsSteady, is_apart, is_count, is_parted, is_within, slot_at}
+use Rattle.sound_code.specs.Named.{IsSteady, is_apart, is_begun, is_count, is_parted, is_piece, is_within, slot_at}
 use Rattle.sound_code.proofs.Steady.{steady_holds}
 use Rattle.fit_rules.specs.Marks.{apart, Fact, Holds, in_slot, lies, parted}
 use Rattle.std.proofs.lemmas.Bool.{ltb-true}
@@ -132,7 +132,7 @@ all_steady params (k ∷ ks) = each_both (IsSteady params params) (told_by param
 
 pub opening_steady : (way : Way) (tree : Tree) (t : TaskTree) → Each (IsSteady (length t.params) (length t.params)) (opening_facts way tree t)
 opening_steady all_made tree t = tt
-opening_steady (by_rules task) tree t = all_steady (length t.params) (scope_of tree t).known
+opening_steady (by_rules tops task) tree t = all_steady (length t.params) (scope_of tree t).known
 
 opening_kept : (way : Way) (tree : Tree) (t : TaskTree) (ws us : List Value) → length ws ≡ length t.params → Each (λ k. Holds k ws) (opening_facts way tree t) →
     Each (λ k. Holds k (ws ++ us)) (opening_facts way tree t)
@@ -254,6 +254,8 @@ worths_told way tree t x ts ws h a = each (opening_facts way tree t) (opening_st
     one _ (is_within i j li lj) = λ r e. absurd (none-some r (sym (none i).0 ∙ e))
     one _ (is_apart i j li lj) = λ r q e f. absurd (none-some r (sym (none i).0 ∙ e))
     one _ (is_parted i j li lj) = λ q e. absurd (none-some q (sym (none (slot_at (length t.params) i)).1 ∙ e))
+    one _ (is_piece i p c li lp w) = λ r e. absurd (none-some r (sym (none (slot_at (length t.params) i)).0 ∙ e))
+    one _ (is_begun i j li lj) = λ r e. absurd (none-some r (sym (none (slot_at (length t.params) i)).0 ∙ e))
 
     each : (ks : List Fact) → Each (IsSteady (length t.params) (length t.params)) ks → Each (λ k. Holds k ws) ks
     each [] s = tt
@@ -267,8 +269,8 @@ module _ (g : Program) (t : TaskCode) (k : ℕ) (way : Way) (w : Where) (known :
         (sym (known.begins task u there))
         (opening_suits (other way u) w.tree u x ws
         (subst (λ y. Are (called x ws) y ws) (sym (worths_named (other way u) (length u.params) (param_types w.tree u) worth))
-        (worths_are x (called x ws) (param_types w.tree u) ws worth a))
-        (worths_told (other way u) w.tree u x (param_types w.tree u) ws worth a)),
+        (worths_are (around x m vs) (called x ws) (param_types w.tree u) ws worth a))
+        (worths_told (other way u) w.tree u (around x m vs) (param_types w.tree u) ws worth a)),
     subst (λ ns. Each (IsNeeded g x ws) ns) (sym none) tt,
     subst (λ ns. IsWithin (declared_claims ns ws) (claims g x t)) (sym none) (λ root field point. inl refl),
   )

@@ -24,7 +24,7 @@ use Rattle.code_laws.proofs.DeclaredNeeds.{IsRegionParam, region_param}
 use Rattle.code_laws.specs.Taking.{known_of_pairs, pairs_in}
 use Rattle.fit_rules.specs.Shapes.{Among, Each}
 use Rattle.fit_rules.specs.Marks.{apart, Fact, in_slot, lies, parted}
-use Rattle.sound_code.specs.Ways.{by_rules, opening_facts, told_by}
+use Rattle.sound_code.specs.Ways.{by_rules, none_begun, opening_facts, told_by}
 
 -- ---- what types tell is of partitions
 
@@ -95,7 +95,7 @@ module _ (tree : Tree) (u : TaskTree) (sound : IsSoundTask tree u) where
   by_type (Apart a b) f i there h = absurd i
   by_type (Made s) f i there h = absurd i
 
-  claimed : (f : Fact) → Has (opening_facts (by_rules u) tree u) f → IsClaimed f
+  claimed : (f : Fact) → Has (opening_facts (by_rules none_begun u) tree u) f → IsClaimed f
   claimed f h =
       let k = has_flat (told_by (length u.params)) (scope_of tree u).known f h in
       ⊎_elim (λ p. by_type k.0 f (params_tell (scope_of tree u).names k.0 p) p k.2)
@@ -105,8 +105,8 @@ module _ (tree : Tree) (u : TaskTree) (sound : IsSoundTask tree u) where
       (Has-append_cases (known_of_params (scope_of tree u).names) (known_of_clauses u.params u.clauses) k.0 k.1)
 
   -- what is so of each claim is so of each fact
-  pub each_claimed : (P : Fact → Type 0) → ((f : Fact) → IsClaimed f → P f) → Each P (opening_facts (by_rules u) tree u)
-  each_claimed P h = each (opening_facts (by_rules u) tree u) (λ f a. h f (claimed f a))
+  pub each_claimed : (P : Fact → Type 0) → ((f : Fact) → IsClaimed f → P f) → Each P (opening_facts (by_rules none_begun u) tree u)
+  each_claimed P h = each (opening_facts (by_rules none_begun u) tree u) (λ f a. h f (claimed f a))
     where
       each : (fs : List Fact) → ((f : Fact) → Has fs f → P f) → Each P fs
       each [] q = tt

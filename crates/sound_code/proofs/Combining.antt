@@ -11,22 +11,28 @@ use Rattle.machine_terms.specs.declared.value.Value.{Value}
 use Rattle.machine_terms.specs.Pointers.{region_in}
 use Rattle.machine_terms.specs.Regions.{partition_in}
 use Rattle.code_rules.specs.Pieces.{Piece, empty, op, ◌⨟◌}
-use Rattle.fit_rules.specs.Shapes.{Each, Shape, Numeric, numeric_integer, numeric_truth, numeric_index, numeric_pointer, space, World, Is, is_number, is_space, Are}
-use Rattle.fit_rules.specs.Marks.{Holds, Mark, Into, stacked}
+use Rattle.fit_rules.specs.Shapes.{Each, IsPlain, Shape, Numeric, numeric_integer, numeric_truth, numeric_index, numeric_pointer, space, World, Is, is_number, is_space, Are}
+use Rattle.fit_rules.specs.Marks.{around, Holds, Mark, Into, stacked}
 use Rattle.fit_rules.specs.Fits.{Program}
 use Rattle.fit_rules.specs.Sound.{Effect}
+use Rattle.fit_laws.proofs.Held.{none_held, plain_held}
 use Rattle.fit_laws.proofs.Keeping.{are_first, are_others, get_set, get_other, set_mark, stores_behind}
 use Rattle.fit_laws.proofs.Lookup.{value_at, as_long}
 use Rattle.marked_code.specs.Marked.{leads_on, leads_storing, Typed, typed_empty, typed_op, typed_both, typed_into}
 use Rattle.sound_code.specs.Named.{slot_at, Ready}
 use Rattle.sound_code.specs.Ways.{Way}
 use Rattle.sound_code.proofs.Narrowing.{set_kept}
+use Rattle.sound_code.proofs.Plain.{numeric_plain}
 use Rattle.sound_code.proofs.Steady.{behind_same, between_same, SameParts, steady_holds}
 
 -- a shape of no region and no partition: a number's, or that of an index space
 pub data IsBare : Shape → Type 0 where
   bare_number : (a : Shape) → Numeric a → IsBare a
   bare_space : IsBare space
+
+bare_plain : (a : Shape) → IsBare a → IsPlain a
+bare_plain _ (bare_number a n) = numeric_plain a n
+bare_plain _ bare_space = tt
 
 -- so these stay where such values are put for such
 no_region : (x : World) (a : Shape) (v : Value) → IsBare a → Is x a v → (region_in (Some v) ≡ None) × (partition_in (Some v) ≡ None)
@@ -51,6 +57,10 @@ same_parts x ss vs s a v na are e h l i = of_test (s == i) refl
         let is = no_region x a v na h in
         subst (SameParts vs (slice_set vs s v)) (eqb-true s i q)
         (ap region_in set ∙ is.0 ∙ sym (ap region_in old.at ∙ was.0), ap partition_in set ∙ is.1 ∙ sym (ap partition_in old.at ∙ was.1))
+
+-- a mark where other slots stay
+abbrev pub fixed_to : ℕ → Mark → Mark
+fixed_to l m = record m { fixed = l }
 
 -- the slot behind, where names are more than the parameters
 pub slot_high : (params p : ℕ) → params ≤ p → params ≤ slot_at params p
@@ -97,26 +107,32 @@ module _ (g : Program) (t : TaskCode) (k : ℕ) where
   pub into : {m n o : Mark} {p : Piece} → Marked m p n → Into t.params n o → length o.slots ≡ length n.slots → Marked m p o
   into f h l = record { marks = _; is = typed_into _ _ _ _ _ f.is h l }
 
-  pub storing : (m : Mark) (s : ℕ) (a b : Shape) (us : List Shape) (line : ℕ) → Keeps m s → t.params ≤ s →
+  pub storing : (m : Mark) (s : ℕ) (a b : Shape) (us : List Shape) (line : ℕ) → Keeps m s → t.params ≤ s → m.fixed ≤ s → IsPlain b →
       s < length m.slots → ((x : World) (v : Value) → Is x a v → Is x b v) →
       Marked (stacked m (a ∷ us)) (op (instr.Store s) line) (set_mark m s b us)
-  storing m s a b us line kept lo hi h = record {
+  storing m s a b us line kept lo fixed plain hi h = record {
     marks = _;
     is = typed_op _ _ _ line (leads_storing (stacked m (a ∷ us)) (set_mark m s b us) s a us refl hi
-        (stores_behind t.params (stacked m (a ∷ us)) s a b us refl lo kept h) (length-set m.slots s b));
+        (stores_behind t.params (stacked m (a ∷ us)) s a b us refl lo fixed plain kept h) (length-set m.slots s b));
   }
 
-  -- a number in the place of a number, or an index space in that of one
-  pub keeping : (m : Mark) (s : ℕ) (a : Shape) (us : List Shape) (line : ℕ) → KeepsNumber m s → IsBare a →
+  -- the slots of one name more stay while something stands on the stack
+  pub fixing : (m n : Mark) (l : ℕ) (p : Piece) → Marked m p (stacked n []) → Marked m p (stacked (fixed_to l n) [])
+  fixing m n l p f = into f (λ x vs st q.
+      record { slots = q.slots; stack = none_held _ _ st q.stack; facts = q.facts; top = tt; args = q.args }) refl
+
+  -- a number in the place of a number, or an index space in that of one, where nothing else stands on the stack
+  pub keeping : (m : Mark) (s : ℕ) (a : Shape) (line : ℕ) → KeepsNumber m s → IsBare a →
       s < length m.slots → slice_get m.slots s ≡ Some a →
-      Marked (stacked m (a ∷ us)) (op (instr.Store s) line) (stacked m us)
-  keeping m s a us line kept na hi e = record {
+      Marked (stacked m (a ∷ [])) (op (instr.Store s) line) (stacked m [])
+  keeping m s a line kept na hi e = record {
     marks = _;
-    is = typed_op _ _ _ line (leads_storing (stacked m (a ∷ us)) (stacked m us) s a us refl hi
+    is = typed_op _ _ _ line (leads_storing (stacked m (a ∷ [])) (stacked m []) s a [] refl hi
         (λ x vs st v q.
-        let same = same_parts x m.slots vs s a v na q.slots e (are_first x a us v st q.stack) hi in record {
-          slots = set_kept x m.slots vs s a v q.slots e (are_first x a us v st q.stack);
-          stack = are_others x a us v st q.stack;
+        let is = plain_held (around x m vs) x.held a v (bare_plain a na) (are_first (around x m vs) a [] v st q.stack) in
+        let same = same_parts x m.slots vs s a v na q.slots e is hi in record {
+          slots = set_kept x m.slots vs s a v q.slots e is;
+          stack = none_held _ _ st (are_others (around x m vs) a [] v st q.stack);
           facts = kept vs v same q.facts;
           top = tt;
           args = λ i l. (same i).0 ∙ q.args i l;

@@ -1,24 +1,22 @@
 -- What a called task's clauses tell of its parameters holds of what is handed over, since nothing is told of the call: of regions that
 -- have names, and of parts, which lie within such.
-use Rattle.std.proofs.Common.{◌≡◌, inl, inr, ℕ, zero, suc, List, Bool, true, false, Some, refl, sym, ap, ◌∙◌, subst, arith, None, ⊎_elim}
-use Rattle.std.specs.Prelude.{cond, nat_le, slice_get}
-use Rattle.std.specs.List.{list_any}
-use Rattle.std.proofs.lemmas.Bool.{eqb-true, not-false, false≢true, not-true}
+use Rattle.std.proofs.Common.{◌≡◌, inl, inr, ℕ, zero, suc, ◌<◌, ◌≤◌, List, Bool, true, false, Option, Some, refl, sym, ap, ◌∙◌, subst, None, ⊎_elim, ◌⊎◌}
+use Rattle.std.specs.Prelude.{slice_get, length}
+use Rattle.std.proofs.lemmas.Bool.{and_parts, false≢true}
 use Rattle.std.proofs.lemmas.Option.{same_Some}
-use Rattle.std.proofs.lemmas.Slice.Eq.{bytes_eq-Decides}
 use Rattle.plain_values.proofs.Plain.{option_or_parts}
-use Rattle.plain_values.specs.Points.{has}
 use Rattle.regent_tree.proofs.Members.{Has}
-use Rattle.regent_tree.specs.Facts.{are_disjoint, is_name, is_subregion}
+use Rattle.regent_tree.specs.Facts.{are_disjoint, is_certain, is_subregion}
 use Rattle.regent_tree.specs.StaticTypes.{place_in, task_named}
 use Rattle.regent_tree.specs.Syntax.{access_expr, an_expr, at_step, Expression, Expressions, Name, no_expr, no_step, TaskTree}
 use Rattle.regent_tree.specs.Typing.{colour_of, is_disjoint, param_types, parent_of}
+use Rattle.regent_tree.specs.Lookup.{is_bound}
+use Rattle.regent_tree.specs.Scopes.{bound_as}
 use Rattle.regent_tree.specs.declared.facts.Colour.{Colour}
 use Rattle.regent_tree.specs.declared.facts.Known.{Known}
-use Rattle.regent_tree.specs.declared.facts.Known.TheVariants.{PartOf}
+use Rattle.regent_tree.specs.declared.facts.Known.TheVariants.{PartOf, Within}
 use Rattle.regent_tree.specs.declared.facts.Term.{Term}
 use Rattle.regent_tree.specs.declared.facts.Term.TheVariants as term
-use Rattle.regent_tree.specs.declared.program.Clause.{Clause}
 use Rattle.regent_tree.specs.declared.program.Clause.TheVariants as clause
 use Rattle.regent_tree.specs.declared.typing.Bound.{Bound}
 use Rattle.regent_tree.specs.declared.typing.StaticType.{StaticType}
@@ -43,172 +41,75 @@ use Rattle.check_rules.specs.types.TypedForms.{calling}
 use Rattle.expression_laws.proofs.Calls.{call_parts}
 use Rattle.expression_laws.proofs.Params.{none_has}
 use Rattle.constraint_check.proofs.Apartness.{are_disjoint-derivable}
+use Rattle.constraint_check.specs.Derivations.{IsApart}
 use Rattle.fact_laws.specs.Regions.{SharesNoPoint}
-use Rattle.code_rules.specs.Slots.{bound, typed, Where}
+use Rattle.code_rules.specs.Slots.{bound, slot_bound, slot_named, typed, Where}
 use Rattle.code_laws.specs.Simple.{a_partition_type, a_region_type, IsPartition, IsRegion, term_in}
 use Rattle.code_laws.specs.Steps.{Forms, Taking}
-use Rattle.code_laws.specs.Arguments.{IsCutName, part_at}
+use Rattle.code_laws.specs.Arguments.{AreOneColour, IsCutName, name_at, part_at}
+use Rattle.code_laws.specs.Handing.{told_in}
+use Rattle.code_laws.proofs.LocalGoals.{bound_among}
 use Rattle.code_laws.specs.Typed.{ArePassed, IsCallable}
 use Rattle.code_laws.proofs.Arguments.{first_region}
 use Rattle.code_laws.proofs.LocalDivided.{told_at}
-use Rattle.code_laws.proofs.LocalGiven.{handed_at, IsHandedAt, IsPartAt, same_name}
-use Rattle.fit_rules.specs.Shapes.{Among, Are, argument, cut_from, Each, Is, is_cut, IsCutOf, is_number, KnowsRoots, Origin, own_as, World}
-use Rattle.fit_rules.specs.Marks.{Fact, Holds, LiesIn, Mark, parted, Suits}
+use Rattle.code_laws.proofs.LocalGiven.{handed_at, IsHandedAt, IsPartAt}
+use Rattle.fit_rules.specs.Shapes.{Are, cut_from, Each, held_at, Is, is_cut, IsChild, IsCutOf, is_number, KnowsRoots, Origin, World}
+use Rattle.fit_rules.specs.Marks.{Fact, Holds, LiesIn, Mark, parted, Suits, around}
 use Rattle.marked_code.proofs.Placed.{below}
-use Rattle.sound_code.specs.FreeCalls.{are_free, are_siblings, binds_siblings}
 use Rattle.sound_code.proofs.WholeTasks.{are_whole_arguments}
-use Rattle.sound_code.specs.Ways.{by_rules, opening_facts}
+use Rattle.sound_code.specs.Ways.{by_rules, opening_facts, origin_in, Tops}
 use Rattle.sound_code.proofs.Wholes.{Asks}
 use Rattle.sound_code.proofs.Accepted.{stands_in}
-use Rattle.sound_code.proofs.ArgumentTypes.{ArgumentIs, name_is, part_is_at, parent_term, part_term}
+use Rattle.sound_code.proofs.ArgumentTypes.{lies_apart, lies_within, ArgumentIs, name_is, parent_is, part_is_at, part_parent, part_term}
+use Rattle.sound_code.proofs.Colours.{colour_at, named_low, slot_low, stays_at}
+use Rattle.sound_code.proofs.Cuts.{AreCut, place_as}
 use Rattle.sound_code.proofs.Claims.{claims_apart, claims_parted, claims_within, each_claimed, IsClaimed}
-use Rattle.sound_code.proofs.Grounds.{HasFacts, Kept, OfType}
+use Rattle.sound_code.proofs.Grounds.{begins_under, HasFacts, high_top, IsSaid, Kept, low_top, OfType, said_of, top_in, top_whole}
+use Rattle.sound_code.proofs.InApart.{in_apart, none_there}
+use Rattle.sound_code.proofs.Siblings.{name_apart, same_child, sibling}
+use Rattle.sound_code.proofs.InSlots.{in_itself, InTerm, lies_named, named_slot, part_in, slot_found, slot_of}
 use Rattle.sound_code.proofs.Dividing.{cut_param, cut_region, parent_told}
-use Rattle.sound_code.proofs.Handed.{all_handed, any_of, argument_at, cut_argument_at, given_cut_is, given_in, given_within, is_given_region, IsGiven, IsOf, of_number, part_argument_at, region_numbered}
-use Rattle.sound_code.proofs.Interpreting.{apart_by_number, meant, region_at}
-use Rattle.sound_code.proofs.Lying.{above, is_lower, is_lower_part, Lower, lower_part, number_of_name}
-use Rattle.sound_code.proofs.Parting.{apart_wholes, AreSiblings, IsName, Stands}
+use Rattle.sound_code.proofs.Handed.{all_handed, any_given, any_of, argument_at, cut_argument_at, given_cut_is, given_from, IsOf, part_argument_at}
+use Rattle.sound_code.proofs.Interpreting.{meant}
+use Rattle.sound_code.proofs.Lying.{Stands}
+use Rattle.sound_code.proofs.Parts.{own_named}
 use Rattle.sound_code.proofs.Placing.{placed_at}
-use Rattle.sound_code.proofs.Scoped.{AreScoped, partition_found, scoped_named}
+use Rattle.sound_code.proofs.Scoped.{AreScoped, partition_found, region_found, scoped_as, scoped_named}
+use Rattle.sound_code.proofs.Under.{under_part}
 use Rattle.sound_code.proofs.Told.{ToldCall}
-use Rattle.fit_laws.proofs.Lookup.{each_among}
+use Rattle.sound_code.specs.Named.{AreNamed, slot_at}
+use Rattle.sound_code.proofs.Stood.{IsStood, stood_apart, BeganWhole, IsNamed, named_stood, stood_within}
 
--- of two regions, where nothing is told
-lies_within : (known : List Known) (t u : StaticType) → IsRegion t → IsRegion u → is_not_within known t u ≡ false →
-    is_subregion known (term_in t) (term_in u) ≡ true
-lies_within known _ _ (a_region_type k sp args r) (a_region_type l sq brgs q) e = not-false (is_subregion known r q) e
+module _ (tops : Tops) (task : TaskTree) (t : TaskCode) (w : Where) (kept : Kept t tops task w.tree w.params w.scope) (m : Mark)
+    (facts : HasFacts (by_rules tops task) w.tree m.facts) (ep : w.params ≡ t.params) (named : AreNamed (by_rules tops task) w.params m.slots w.scope.names)
+    (fixed : m.fixed ≡ slot_at w.params (length w.scope.names)) (base : World) (vs st ws : List Value) (knows : KnowsRoots base) (suits : Suits base t.params m vs st) where
+  -- what stands around the arguments
+  abbrev x : World
+  x = around base m vs
 
-lies_apart : (known : List Known) (t u : StaticType) → IsRegion t → IsRegion u → are_not_apart known t u ≡ false →
-    are_disjoint known (term_in t) (term_in u) ≡ true
-lies_apart known _ _ (a_region_type k sp args r) (a_region_type l sq brgs q) e = not-false (are_disjoint known r q) e
-
-module _ (task : TaskTree) (t : TaskCode) (w : Where) (kept : Kept t task w.tree w.params w.scope) (m : Mark) (facts : HasFacts (by_rules task) w.tree m.facts)
-    (ep : w.params ≡ t.params) (x : World) (vs st ws : List Value) (knows : KnowsRoots x) (suits : Suits x t.params m vs st) where
   abbrev ks : List Fact
-  ks = opening_facts (by_rules task) w.tree task
+  ks = opening_facts (by_rules tops task) w.tree task
 
   abbrev known : List Known
   known = w.scope.known
 
-  -- the argument at a place is a region of a name, or a part of a partition that has a name, and lies within such a region
-  pub data IsStood (keeps : Bool) (es : Expressions) (k : ℕ) (u : StaticType) (r : RegionValue) : Type 0 where
-    stood_name : (i : ℕ) → term_in u ≡ term.Name i → IsOf x w.params i r → IsStood keeps es k u r
-    stood_part : (q : Name × Expression) (c : Colour) (i : ℕ) (whole : RegionValue) → keeps ≡ true → IsCutName w q.0 → part_at es k ≡ Some q →
-        term_in u ≡ term.Child (bound w q.0).number c → Stands known (term.Child (bound w q.0).number c) i → IsOf x w.params i whole →
-        LiesIn r whole → IsStood keeps es k u r
+  abbrev up : ℕ → Option (ℕ × ℕ)
+  up = tops task
 
-  -- it lies within the region of a number
-  record IsUnder (u : StaticType) (r : RegionValue) : Type 0 where
-    number : ℕ
-    whole : RegionValue
-    of : IsOf x w.params number whole
-    inside : LiesIn r whole
-    stands : Stands known (term_in u) number
+  abbrev begins : (i p : ℕ) (c : Colour) → Has known (Within (term.Name i) (term.Child p c)) → (r : ℕ) (d : Bool) → Has known (PartOf p r d) →
+      up i ≡ Some (r, top_in w.params up r)
+  begins = begins_under t tops task w.tree w.params w.scope kept
 
-  under : (keeps : Bool) (es : Expressions) (k : ℕ) (u : StaticType) (r : RegionValue) → IsStood keeps es k u r → IsUnder u r
-  under keeps es k u r (stood_name i e o) =
-      record { number = i; whole = r; of = o; inside = (refl, λ p y. y); stands = subst (λ b. Stands known b i) (sym e) refl }
-  under keeps es k u r (stood_part q c i whole kp cut at e s o inside) =
-      record { number = i; whole = whole; of = o; inside = inside; stands = subst (λ b. Stands known b i) (sym e) s }
-
-  -- a region of a name, by its number
-  pub record IsNumbered (u : StaticType) (v : Value) : Type 0 where
-    pub number : ℕ
-    pub space : ℕ
-    pub term : term_in u ≡ term.Name number
-    pub given : IsGiven x w.params space number v
-
-  as_numbered : (place : ℕ) (u : StaticType) (v : Value) → IsRegion u → OfType w.params place u → Is x (given_in w.params u) v → IsNumbered u v
-  as_numbered place _ v (a_region_type k sp args (term.Name i)) o h =
-      record { number = i; space = sp; term = refl; given = is_given_region x w.params sp i v h }
-  as_numbered place _ v (a_region_type k sp args (term.Child p c)) o h = absurd o
-
-  -- what is derived of the names of two regions holds of them
-  lie_by_lower : (i j : ℕ) (p q : RegionValue) → IsOf x w.params i p → IsOf x w.params j q → Lower t.params w.params ks m (term.Name i) (term.Name j) → LiesIn p q
-  lie_by_lower i j p q op oq lower = elim (below i w.params) [
-    | inl low ↦
-        let o = above t.params w.params ks m ep i j low lower x vs st suits p (op.taken low) in
-        subst (LiesIn p) (same_Some o.other q (sym o.at ∙ oq.taken o.low)) o.inside
-    | inr high ↦ elim lower [
-      | inl same ↦
-          let one : i ≡ j = ap number_of_name same in
-          let mine = op.mine high in
-          let its = oq.mine (omega (arith, high, one)) in
-          let root : p.root.0 ≡ q.root.0 = same_Some p.root.0 q.root.0 (sym mine.1 ∙ ap x.last one ∙ its.1) in
-          let points : p.points ≡ q.points = mine.0.1 ∙ ap x.points root ∙ sym its.0.1 in
-          (root, λ n h. subst (λ xs. has xs n ≡ true) points h)
-      | inr k ↦ let l = k.low in absurd (omega (arith, l, high))
-    ]
-  ]
-
-  -- no name lies below a part
-  not_below_part : (i p : ℕ) (c : Colour) → Lower t.params w.params ks m (term.Name i) (term.Child p c) → ⊥
-  not_below_part i p c (inl e) = absurd (subst IsName e tt)
-  not_below_part i p c (inr k) = absurd (subst IsName (sym k.is) tt)
-
-  lower_name : (i : ℕ) (b : Term) → is_subregion known (term.Name i) b ≡ true → Lower t.params w.params ks m (term.Name i) b
-  lower_name i b e = is_lower t.params w.params ks m facts known kept.known (term.Name i) b e
-
-  -- partitions of one number have one name
-  no_two : (p q : Name × Expression) → IsCutName w p.0 → IsCutName w q.0 → (bound w p.0).number ≡ (bound w q.0).number → are_siblings (Some p) (Some q) ≡ false → ⊥
-  no_two p q a b same e = false≢true (sym e ∙ (bytes_eq-Decides p.0 q.0).1 (same_name w a.numbers p.0 q.0 a.named b.named same))
-
-  stood_within : (keeps : Bool) (es : Expressions) (k l : ℕ) (u v : StaticType) (r q : RegionValue) → (keeps ≡ true → are_siblings (part_at es k) (part_at es l) ≡ false) →
-      IsStood keeps es k u r → IsStood keeps es l v q → is_subregion known (term_in u) (term_in v) ≡ true → LiesIn r q
-  stood_within keeps es k l u v r q other (stood_name i ei oi) (stood_name j ej oj) e =
-      lie_by_lower i j r q oi oj (lower_name i (term.Name j)
-      (subst (λ b. is_subregion known (term.Name i) b ≡ true) ej (subst (λ a. is_subregion known a (term_in v) ≡ true) ei e)))
-  stood_within keeps es k l u v r q other (stood_name i ei oi) (stood_part n c j whole kp cut at ej s oj inside) e =
-      absurd (not_below_part i (bound w n.0).number c (lower_name i (term.Child (bound w n.0).number c)
-      (subst (λ b. is_subregion known (term.Name i) b ≡ true) ej (subst (λ a. is_subregion known a (term_in v) ≡ true) ei e))))
-  stood_within keeps es k l u v r q other (stood_part n c i whole kp cut at ei s oi inside) (stood_name j ej oj) e =
-      let over = is_lower_part t.params w.params ks m facts known kept.known (bound w n.0).number c j
-      (subst (λ b. is_subregion known (term.Child (bound w n.0).number c) b ≡ true) ej (subst (λ a. is_subregion known a (term_in v) ≡ true) ei e)) in
-      let lies = lie_by_lower i j whole q oi oj (subst (λ z. Lower t.params w.params ks m (term.Name z) (term.Name j)) (s over.parent over.flag over.of) over.over) in
-      (inside.0 ∙ lies.0, λ p y. lies.1 p (inside.1 p y))
-  stood_within keeps es k l u v r q other (stood_part n c i whole kp cut at ei s oi inside) (stood_part o d j wider kq other_cut of ej z oj within) e = ⊎_elim
-      (λ same. absurd (no_two n o cut other_cut (sym same) (subst (λ y. are_siblings (Some n) y ≡ false) of
-      (subst (λ y. are_siblings y (part_at es l) ≡ false) at (other kp)))))
-      (λ over. absurd (not_below_part over.parent (bound w o.0).number d over.over))
-      (lower_part t.params w.params ks m facts known kept.known (bound w n.0).number c (term.Child (bound w o.0).number d)
-      (subst (λ b. is_subregion known (term.Child (bound w n.0).number c) b ≡ true) ej (subst (λ a. is_subregion known a (term_in v) ≡ true) ei e)))
-
-  no_siblings : (keeps : Bool) (es : Expressions) (k l : ℕ) (u v : StaticType) (r q : RegionValue) → (keeps ≡ true → are_siblings (part_at es k) (part_at es l) ≡ false) →
-      IsStood keeps es k u r → IsStood keeps es l v q → AreSiblings (term_in u) (term_in v) → ⊥
-  no_siblings keeps es k l u v r q other (stood_name i ei oi) h e = subst (λ a. AreSiblings a (term_in v)) ei e
-  no_siblings keeps es k l u v r q other (stood_part n c i whole kp cut at ei s oi inside) (stood_name j ej oj) e =
-      subst (AreSiblings (term.Child (bound w n.0).number c)) ej (subst (λ a. AreSiblings a (term_in v)) ei e)
-  no_siblings keeps es k l u v r q other (stood_part n c i whole kp cut at ei s oi inside) (stood_part o d j wider kq other_cut of ej z oj within) e =
-      no_two n o cut other_cut (subst (AreSiblings (term.Child (bound w n.0).number c)) ej (subst (λ a. AreSiblings a (term_in v)) ei e))
-      (subst (λ y. are_siblings (Some n) y ≡ false) of (subst (λ y. are_siblings y (part_at es l) ≡ false) at (other kp)))
-
-  apart_numbers : (i j : ℕ) (p q : RegionValue) → IsOf x w.params i p → IsOf x w.params j q → are_disjoint known (term.Name i) (term.Name j) ≡ true →
-      SharesNoPoint (meant p) (meant q)
-  apart_numbers i j p q op oq e =
-      subst (λ r. SharesNoPoint r (meant q)) (region_numbered x w.params i p op)
-      (subst (SharesNoPoint (region_at x w.params i)) (region_numbered x w.params j q oq)
-      (apart_by_number x w.params vs knows (λ n l. suits.args n (omega (arith, l, ep))) ks held known kept.known i j e))
-    where
-      held : (k : Fact) → Among ks k → Holds k vs
-      held k h = each_among (λ f. Holds f vs) m.facts k (facts k h) suits.facts
-
-  -- where two lie that share no point, they share none
-  stood_apart : (keeps : Bool) (es : Expressions) (k l : ℕ) (u v : StaticType) (r q : RegionValue) → (keeps ≡ true → are_siblings (part_at es k) (part_at es l) ≡ false) →
-      IsStood keeps es k u r → IsStood keeps es l v q → are_disjoint known (term_in u) (term_in v) ≡ true → SharesNoPoint (meant r) (meant q)
-  stood_apart keeps es k l u v r q other sr sq e =
-      let a = under keeps es k u r sr in
-      let b = under keeps es l v q sq in
-      ⊎_elim (λ s. absurd (no_siblings keeps es k l u v r q other sr sq s))
-      (λ d.
-      let wholes = apart_numbers a.number b.number a.whole b.whole a.of b.of ((are_disjoint-derivable known (term.Name a.number) (term.Name b.number)).1 d) in
-      λ root point i j. wholes root point (sym a.inside.0 ∙ i.0, a.inside.1 point i.1) (sym b.inside.0 ∙ j.0, b.inside.1 point j.1))
-      (apart_wholes w.params ks known kept.known ((are_disjoint-derivable known (term_in u) (term_in v)).0 e) a.number b.number a.stands b.stands)
+  abbrev Stood : Forms → StaticType → RegionValue → Type 0
+  Stood = IsStood tops task t w kept m facts ep named fixed base vs st knows suits
 
   module _ (forms : Forms) (y : Taking) (takes : forms.takes ≡ Some y) (name : Name) (ts : List StaticType) (es : Expressions)
       (scoped : forms.keeps ≡ true → AreScoped w.scope.names w.scope.names) (is : IsCallable forms w name es)
       (passed : ArePassed forms w ts (param_types w.tree (task_named w.tree name)) es) (whole : Asks forms.keeps (are_whole_arguments true w (param_types w.tree (task_named w.tree name)) es))
-      (free : Asks forms.keeps (are_free (task_named w.tree name) es))
-      (are : Are x (all_handed w (param_types w.tree (task_named w.tree name)) es) ws) (told : ToldCall (by_rules task) w.tree w.scope name es) where
+      (cut : forms.keeps ≡ true → AreCut w.params (tops task) (told_in w.tree task) m.facts w.scope.names w.scope.names)
+      (total : (k : Known) → Has w.scope.known k → Has (told_in w.tree task) k)
+      (none : forms.keeps ≡ false → (i : ℕ) → tops task i ≡ None)
+      (are : Are x (all_handed (by_rules tops task) w (param_types w.tree (task_named w.tree name)) es) ws) (told : ToldCall (by_rules tops task) w.tree w.scope name es) where
     abbrev callee : TaskTree
     callee = task_named w.tree name
 
@@ -227,72 +128,212 @@ module _ (task : TaskTree) (t : TaskCode) (w : Where) (kept : Kept t task w.tree
     type_of_argument (an_expr e es) (suc k) u none at =
         type_of_argument es k u (option_or_parts (first_in_expression w.tree task w.scope e) _ none).1 at
 
+    -- a region lies within what stands for a term in slots
+    abbrev In : forms.keeps ≡ true → RegionValue → Term → Type 0
+    In q = InTerm tops task t w kept m facts (scoped q) (cut q) total vs suits.facts
+
+    -- it is the one in the slot of the name with a number
+    abbrev IsSeated : RegionValue → ℕ → Type 0
+    IsSeated r i = (region_in (slice_get vs (slot_of w i)) ≡ Some r) × IsRegion (bound_as w.scope.names i).static_type
+
+    named_in : (q : forms.keeps ≡ true) (place : ℕ) (u : StaticType) (r : RegionValue) → IsRegion u → OfType w.params place u →
+        ((i : ℕ) → term_in u ≡ term.Name i → IsSeated r i) → In q r (term_in u)
+    named_in q place _ r (a_region_type k sp args (term.Name i)) o h =
+        let at = h i refl in in_itself tops task t w kept m facts (scoped q) (cut q) total vs suits.facts r i at.0 (λ l. at.1)
+    named_in q place _ r (a_region_type k sp args (term.Child p c)) o h = absurd o
+
+    -- the slot of a name stays
+    name_low : (n : Name) → is_bound w.scope.names n ≡ true → slot_named w n < m.fixed
+    name_low n there = subst (λ l. slot_named w n < l) (sym fixed) (slot_low w.params (bound w n).place (length w.scope.names)
+        (named_low (by_rules tops task) w.params m.slots w.scope.names n named there))
+
+    seated : (n : Name) → is_bound w.scope.names n ≡ true → IsRegion (bound w n).static_type → (r : RegionValue) →
+        region_in (slice_get x.held (slot_named w n)) ≡ Some r → forms.keeps ≡ true → (i : ℕ) → term_in (bound w n).static_type ≡ term.Name i → IsSeated r i
+    seated n there is r held q i e =
+        let s = named_slot tops task t w kept m facts (scoped q) (cut q) total vs suits.facts n i told.0.numbers there is e in (
+          subst (λ y. region_in (slice_get vs y) ≡ Some r) s.0 (ap region_in (sym (stays_at m.fixed vs (slot_named w n) (name_low n there))) ∙ held),
+          s.1,
+        )
+
+    -- an argument that is a name, by its type
+    record IsNameAt (k : ℕ) (u : StaticType) : Type 0 where
+      it : Name
+      at : name_at es k ≡ Some it
+      number : ℕ
+      term : term_in u ≡ term.Name number
+
+    -- or a part of a partition that has a name: it is the child by its colour
+    record IsChildAt (k : ℕ) (u : StaticType) (r : RegionValue) : Type 0 where
+      part : Name × Expression
+      at : part_at es k ≡ Some part
+      term : term_in u ≡ term.Child (bound w part.0).number (colour_of w.scope part.1)
+      child : IsChild x.held (slot_named w part.0) (colour_at w part.1) r
+
     -- the argument for a parameter that is a region
     record IsRegionArgument (k : ℕ) : Type 0 where
       type : StaticType
       it : RegionValue
       at : region_in (slice_get ws k) ≡ Some it
       region : IsRegion type
-      typed : type_at (known_types w.tree w.scope es) k ≡ type
-      stood : IsStood forms.keeps es k type it
+      at_place : ArgumentIs w es k type
+      stood : Stood forms type it
+      given_as : IsNameAt k type ⊎ IsChildAt k type it
+      within : (q : forms.keeps ≡ true) → In q it (term_in type)
+      slot : forms.keeps ≡ true → (i : ℕ) → term_in type ≡ term.Name i → IsSeated it i
+      unkept : forms.keeps ≡ false → BeganWhole w.params up type
+
+    abbrev given : List StaticType
+    given = known_types w.tree w.scope es
+
+    known_typed : (k : ℕ) (a : IsRegionArgument k) → type_at given k ≡ a.type
+    known_typed k a = type_of_argument es k a.type told.1 a.at_place
+
+    none_whole : (place : ℕ) (u : StaticType) → IsRegion u → OfType w.params place u → forms.keeps ≡ false → BeganWhole w.params up u
+    none_whole place _ (a_region_type k sp args (term.Name i)) o e = λ l. none e i
+    none_whole place _ (a_region_type k sp args (term.Child p c)) o e = absurd o
+
+    name_given : (k : ℕ) (n : Name) → name_at es k ≡ Some n → (place : ℕ) (u : StaticType) → IsRegion u → OfType w.params place u → IsNameAt k u
+    name_given k n at place _ (a_region_type c sp args (term.Name i)) o = record { it = n; at = at; number = i; term = refl }
+    name_given k n at place _ (a_region_type c sp args (term.Child p e)) o = absurd o
 
     of_name : (k : ℕ) → IsHandedAt w es k (type_at types k) → IsRegionArgument k
     of_name k a =
-        let u = (bound w a.name).static_type in
+        let b = bound w a.name in
+        let u = b.static_type in
         let r = first_region u (type_at types k) a.regions in
-        let v = argument_at forms w x ts types es ws k a.name passed whole are a.at r in
-        let n = as_numbered (bound w a.name).place u v.it r (placed_at t (by_rules task) w.tree w.params w.scope a.name kept a.there) v.of in record {
+        let y = argument_at forms (by_rules tops task) w x ts types es ws k a.name passed whole are a.at r in
+        let v = y.given in
+        let q = any_given x (by_rules tops task) w.params u (type_at types k) v.it a.regions v.of in
+        let at = ap region_in (v.at ∙ ap Some q.is) in
+        let seat = seated a.name a.there r q.it (y.held q.it at) in
+        let has = bound_among w.scope.names a.name a.there in
+        let o = placed_at t (by_rules tops task) w.tree w.params w.scope a.name kept a.there in record {
           type = u;
-          it = n.given.it;
-          at = ap region_in (v.at ∙ ap Some n.given.is);
+          it = q.it;
+          at = at;
           region = r;
-          typed = type_of_argument es k u told.1 (name_is w es k a.name a.at);
-          stood = stood_name n.number n.term n.given.of;
+          at_place = name_is w es k a.name a.at;
+          stood = named_stood tops task t w kept m facts ep named fixed base vs st knows suits forms b has u refl r o v.it v.of q.it (ap region_in (ap Some q.is));
+          given_as = inl (name_given k a.name a.at b.place u r o);
+          within = λ keeps. named_in keeps b.place u q.it r o (seat keeps);
+          slot = seat;
+          unkept = none_whole b.place u r o;
         }
 
     -- a part's partition is of the region that its type names, whatever else is known of it
-    part_stands : (n : Name) (c : Colour) → IsCutName w n → forms.keeps ≡ true → Stands known (term.Child (bound w n).number c) (parent_of (bound w n).static_type)
-    part_stands n c cut keeps r d h =
+    part_stands : (n : Name) (c : Colour) → IsCutName w n →
+        Stands w.params up known (term.Child (bound w n).number c) (top_in w.params up (parent_of (bound w n).static_type))
+    part_stands n c cut r d h =
         let names = w.scope.names in
         let same = (found_by_number w.scope.next names n cut.numbers cut.named).0 in
         let found = partition_found names (bound w n).number (subst (λ (b : Bound). IsPartition b.static_type) (sym same) cut.partition) in
-        sym (ap parent_of ((kept.head.parts (PartOf (bound w n).number r d) h).one (bound w n) (subst (Has names) same found.0) refl))
+        ap (λ (u : StaticType). top_in w.params up (parent_of u))
+        (sym ((kept.head.parts (PartOf (bound w n).number r d) h).one (bound w n) (subst (Has names) same found.0) refl))
+
+    -- that region is a name's
+    parent_said : (n : Name) → forms.keeps ≡ true → IsRegion (bound_as w.scope.names (parent_of (bound w n).static_type)).static_type →
+        w.params ≤ parent_of (bound w n).static_type → IsSaid known (parent_of (bound w n).static_type)
+    parent_said n keeps is =
+        let names = w.scope.names in
+        let r = parent_of (bound w n).static_type in
+        let found = region_found names r is in
+        said_of w.params known (bound_as names r).static_type r is
+        (own_named names (bound_as names r).static_type (bound_as names r).number r is (scoped_as names names r (scoped keeps) is) found.1)
+        (kept.said (bound_as names r) found.0)
+
+    part_exact : (p : ℕ) (c : Colour) (u : StaticType) (r : RegionValue) (n : ℕ) → IsRegion u → term_in u ≡ term.Child p c → BeganWhole w.params up u → IsOf x w.params n r
+    part_exact p c _ r n (a_region_type k sp args (term.Name i)) e began = absurd (subst IsNamed e tt)
+    part_exact p c _ r n (a_region_type k sp args (term.Child q d)) e began = absurd began
 
     of_part : (k : ℕ) → IsPartAt forms w es k (type_at types k) → IsRegionArgument k
     of_part k a =
         let n = a.name in
         let u = typed w (access_expr n (at_step a.index no_step)) in
         let r = first_region u (type_at types k) a.regions in
-        let d = part_argument_at forms w x ts types es ws k (n, a.index) passed whole are a.at a.cut.partition in
+        let d = part_argument_at forms (by_rules tops task) w x ts types es ws k (n, a.index) passed whole are a.at a.cut.partition in
         let v = any_of x d.space _ d.given.it d.given.of in
-        let h = given_within x w.params d.space (parent_of (bound w n).static_type) d.given.it d.given.of v.it (ap region_in (ap Some v.is)) in record {
+        let parent = parent_of (bound w n).static_type in
+        let c = colour_of w.scope a.index in
+        let term = part_term w n a.index a.cut.partition (scoped_named w.scope.names w.scope.names n (scoped a.keeps) a.cut.named) r in
+        let from = given_from x d.space _ d.given.it d.given.of v.it (ap region_in (ap Some v.is)) in
+        let at = ap region_in (d.given.at ∙ ap Some v.is) in
+        let child = d.child v.it at in record {
           type = u;
           it = v.it;
-          at = ap region_in (d.given.at ∙ ap Some v.is);
+          at = at;
           region = r;
-          typed = type_of_argument es k u told.1 (part_is_at w es k (n, a.index) a.at);
-          stood = stood_part (n, a.index) (colour_of w.scope a.index) (parent_of (bound w n).static_type) h.whole a.keeps a.cut a.at
-              (part_term w n a.index a.cut.partition (scoped_named w.scope.names w.scope.names n (scoped a.keeps) a.cut.named) r)
-              (part_stands n (colour_of w.scope a.index) a.cut a.keeps) (of_number x w.params (parent_of (bound w n).static_type) h.whole h.from) h.inside;
+          at_place = part_is_at w es k (n, a.index) a.at;
+          stood = record {
+            number = top_in w.params up parent;
+            under = under_part tops task w.params parent x v.it from;
+            stands = subst (λ b. Stands w.params up known b (top_in w.params up parent)) (sym term) (part_stands n c a.cut);
+            whole = top_whole t tops task w.tree w.params w.scope kept parent (parent_said n a.keeps (part_parent w n a.index a.cut.partition r));
+            exact = part_exact (bound w n).number c u v.it (top_in w.params up parent) r term;
+          };
+          given_as = inr (record { part = (n, a.index); at = a.at; term = term; child = child });
+          within = λ q. subst (In q v.it) (sym term) (part_in tops task t w kept m facts (scoped q) (cut q) total vs suits.facts n a.index v.it a.cut
+              (name_low n a.cut.named) child);
+          slot = λ q i e. absurd (subst IsNamed (sym e ∙ term) tt);
+          unkept = λ e. absurd (false≢true (sym e ∙ a.keeps));
         }
 
     region_argument : (k : ℕ) → is_region (type_at types k) ≡ true → IsRegionArgument k
     region_argument k e = ⊎_elim (of_name k) (of_part k) (handed_at forms y takes w ts types es passed k e)
 
-    -- no constraint speaks of two parts of one partition, where there are parts
-    unbound : (c : Clause) → Has callee.clauses c → (q : forms.keeps ≡ true) → binds_siblings callee.params es c ≡ false
-    unbound c h q = none_has (binds_siblings callee.params es) callee.clauses c (not-true (list_any (binds_siblings callee.params es) callee.clauses) (free q)) h
+    -- ---- a region within another, where pointers are kept
 
-    -- the region of which a partition is that was handed over is the argument for the region of its parameter
-    region_given : (i : ℕ) (a : StaticType) (r : RegionValue) (k : ℕ) → IsRegion a → is_parent i a ≡ true → IsStood forms.keeps es k a r → IsOf x w.params i r
-    region_given i a r k is e (stood_name j q o) =
-        subst (λ n. IsOf x w.params n r) (sym (eqb-true i j (subst (λ b. is_name i b ≡ true) q (parent_term i a is e)))) o
-    region_given i a r k is e (stood_part n c j whole kp cut at q s o inside) = absurd (false≢true (subst (λ b. is_name i b ≡ true) q (parent_term i a is e)))
+    -- where that is a part that has no name, it is the same one
+    one_part : forms.keeps ≡ true → (a b : Name) → Has callee.clauses (clause.Within a b) → (ra : IsRegionArgument (place_in callee.params a)) (rb : IsRegionArgument (place_in callee.params b)) →
+        is_subregion known (term_in ra.type) (term_in rb.type) ≡ true → IsChildAt (place_in callee.params b) rb.type rb.it → ra.it ≡ rb.it
+    one_part q a b h ra rb lies upper =
+        let o = sibling y w es forms takes q name is a b h upper.part upper.at in
+        let sure = subst (λ z. is_certain z ≡ true) upper.term (and_parts (is_certain (term_in rb.type)) _ lies).0 in
+        ⊎_elim
+        (λ (n : IsNameAt (place_in callee.params a) ra.type). absurd (name_apart es (place_in callee.params a) n.it o.it n.at o.at))
+        (λ (lower : IsChildAt (place_in callee.params a) ra.type ra.it).
+        let same = same_Some lower.part o.it (sym lower.at ∙ o.at) in
+        same_child w x.held lower.part upper.part ra.it rb.it (ap (λ (p : Name × Expression). p.0) same ∙ o.name)
+        (subst (λ (p : Name × Expression). AreOneColour p.1 upper.part.1) (sym same) o.colour) sure lower.child upper.child) ra.given_as
+
+    lies_there : forms.keeps ≡ true → (a b : Name) → Has callee.clauses (clause.Within a b) → (ra : IsRegionArgument (place_in callee.params a)) (rb : IsRegionArgument (place_in callee.params b)) →
+        is_subregion known (term_in ra.type) (term_in rb.type) ≡ true → LiesIn ra.it rb.it
+    lies_there q a b h ra rb lies = ⊎_elim
+        (λ (n : IsNameAt (place_in callee.params b) rb.type).
+        lies_named tops task t w kept m facts (scoped q) (cut q) total vs suits.facts (term_in ra.type) n.number ra.it rb.it (ra.within q) (rb.slot q n.number n.term).0
+        (subst (λ z. is_subregion known (term_in ra.type) z ≡ true) n.term lies))
+        (λ (upper : IsChildAt (place_in callee.params b) rb.type rb.it). subst (LiesIn ra.it) (one_part q a b h ra rb lies upper) (refl, λ p i. i)) rb.given_as
+
+    -- where no pointers are kept none began as a part
+    own_number : (u : StaticType) (r : RegionValue) (s : Stood forms u r) → IsRegion u → BeganWhole w.params up u → term_in u ≡ term.Name s.number
+    own_number _ r s (a_region_type k sp args (term.Name i)) began = elim (below i w.params) [
+      | inl low ↦ ap term.Name (sym (low_top w.params up i low) ∙ s.stands)
+      | inr high ↦ ap term.Name (sym (high_top w.params up i None high (began high)) ∙ s.stands)
+    ]
+    own_number _ r s (a_region_type k sp args (term.Child p c)) began = absurd began
+
+    -- ---- what the called task's head tells
+
+    within_told : (a b : Name) → Has callee.clauses (clause.Within a b) → (ra : IsRegionArgument (place_in callee.params a)) (rb : IsRegionArgument (place_in callee.params b)) →
+        is_subregion known (term_in ra.type) (term_in rb.type) ≡ true → LiesIn ra.it rb.it
+    within_told a b h ra rb lies = of forms.keeps refl
+      where
+        of : (c : Bool) → forms.keeps ≡ c → LiesIn ra.it rb.it
+        of true q = lies_there q a b h ra rb lies
+        of false e = stood_within tops task t w kept m facts ep named fixed base vs st knows suits forms ra.type rb.type ra.it rb.it rb.region ra.stood rb.stood (rb.unkept e) lies
+
+    apart_there : (ka kb : ℕ) (ra : IsRegionArgument ka) (rb : IsRegionArgument kb) → are_disjoint known (term_in ra.type) (term_in rb.type) ≡ true →
+        SharesNoPoint (meant ra.it) (meant rb.it)
+    apart_there ka kb ra rb lies = of forms.keeps refl ((are_disjoint-derivable known (term_in ra.type) (term_in rb.type)).0 lies)
+      where
+        of : (c : Bool) → forms.keeps ≡ c → IsApart known (term_in ra.type) (term_in rb.type) → SharesNoPoint (meant ra.it) (meant rb.it)
+        of true q d = in_apart tops task t w kept m facts ep named fixed (scoped q) (cut q) total base vs st knows suits d ra.it rb.it (ra.within q) (rb.within q)
+        of false e d = stood_apart tops task t w kept m facts ep named fixed base vs st knows suits forms ra.type rb.type ra.it rb.it ra.stood rb.stood
+            (subst (λ a. IsApart known a (term.Name rb.stood.number)) (own_number ra.type ra.it ra.stood ra.region (ra.unkept e))
+            (subst (IsApart known (term_in ra.type)) (own_number rb.type rb.it rb.stood rb.region (rb.unkept e)) d))
 
     parted_told : (p r : ℕ) (d : Bool) → type_at types p ≡ partition_type d r p → is_region (type_at types r) ≡ true → Holds (parted p r) ws
     parted_told p r d same sort = λ q eq.
-        let given = known_types w.tree w.scope es in
-        let c = cut_argument_at forms w x ts types es ws p passed whole are (subst IsPartition (sym same) (a_partition_type d r p)) in
+        let c = cut_argument_at forms (by_rules tops task) w x ts types es ws p passed whole are (subst IsPartition (sym same) (a_partition_type d r p)) in
         let b = (bound w c.name).static_type in
         let a = region_argument r sort in
         let told_there : mispartitions given (type_at types p) (type_at given p) ≡ false =
@@ -302,14 +343,18 @@ module _ (task : TaskTree) (t : TaskCode) (w : Where) (kept : Kept t task w.tree
         (subst (λ u. mispartitions given (partition_type d r p) u ≡ false) (type_of_argument es p b told.1 (name_is w es p c.name c.at))
         (subst (λ u. mispartitions given u (type_at given p) ≡ false) same told_there))).1 in
         let i = parent_of b in
-        let here = region_given i a.type a.it r a.region (subst (λ u. is_parent i u ≡ true) a.typed parent) a.stood in
-        let o = cut_of_value (cond (nat_le w.params i) (own_as i) (argument i)) (is_disjoint b) c.given.it q
-        (sym (ap partition_in c.given.at) ∙ eq) (subst (λ s. Is x s c.given.it) (given_cut_is w.params b c.is.partition) c.given.of) in
-        let lies = lie_by_lower i i o.parent a.it (of_number x w.params i o.parent o.origin) here (inl refl) in record {
+        let seat = a.slot c.keeps i (parent_is i a.type a.region (subst (λ u. is_parent i u ≡ true) (known_typed r a) parent)) in
+        let o = cut_of_value (held_at (slot_bound w i) (origin_in (by_rules tops task) w.params (term.Name i))) (is_disjoint b) c.given.it q
+        (sym (ap partition_in c.given.at) ∙ eq) (subst (λ s. Is x s c.given.it) (given_cut_is (by_rules tops task) w b c.is.partition) c.given.of) in
+        let low : slot_bound w i < m.fixed = subst (λ l. slot_bound w i < l) (sym fixed) (slot_low w.params (bound_as w.scope.names i).place (length w.scope.names)
+        (place_as (by_rules tops task) w.params m.slots w.scope.names i named seat.1)) in
+        let at = slot_found tops task t w kept m facts (scoped c.keeps) (cut c.keeps) total vs suits.facts i seat.1 in
+        let one : o.parent ≡ a.it = same_Some o.parent a.it (sym o.origin.1 ∙ ap region_in (stays_at m.fixed vs (slot_bound w i) low)
+        ∙ subst (λ s. region_in (slice_get vs s) ≡ Some a.it) at seat.0) in record {
           parent = a.it;
           at = a.at;
-          root = o.root ∙ lies.0;
-          inside = λ z h. ((o.inside z h).0 ∙ lies.0, λ n y. lies.1 n ((o.inside z h).1 n y));
+          root = o.root ∙ ap (λ (z : RegionValue). z.root.0) one;
+          inside = λ z h. subst (LiesIn z) one (o.inside z h);
         }
       where
         cut_of_value : (o : Origin) (e : Bool) (v : Value) (q : PartitionValue) → partition_in (Some v) ≡ Some q → Is x (cut_from None e o) v → IsCutOf x o q
@@ -322,40 +367,33 @@ module _ (task : TaskTree) (t : TaskCode) (w : Where) (kept : Kept t task w.tree
         let kb = place_in callee.params b in
         let ra = region_argument ka pa.region in
         let rb = region_argument kb pb.region in
-        let whole = none_has (breaks_clause known callee.params (known_types w.tree w.scope es)) _ (clause.Within a b)
-        (call_parts w.tree task w.scope (calling name (known_types w.tree w.scope es)) told.2).constrained
+        let whole = none_has (breaks_clause known callee.params given) _ (clause.Within a b)
+        (call_parts w.tree task w.scope (calling name given) told.2).constrained
         (subst (λ cs. Has cs (clause.Within a b)) (sym (told_soundly w.tree callee callee_sound.clauses)) h) in
         let lies = lies_within known ra.type rb.type ra.region rb.region
-        (subst (λ u. is_not_within known ra.type u ≡ false) rb.typed
-        (subst (λ u. is_not_within known u (type_at (known_types w.tree w.scope es) kb) ≡ false) ra.typed whole)) in record {
+        (subst (λ u. is_not_within known ra.type u ≡ false) (known_typed kb rb)
+        (subst (λ u. is_not_within known u (type_at given kb) ≡ false) (known_typed ka ra) whole)) in record {
           other = rb.it;
           at = rb.at;
           inside = subst (λ (q : RegionValue). LiesIn q rb.it) (same_Some ra.it r (sym ra.at ∙ er))
-              (stood_within forms.keeps es ka kb ra.type rb.type ra.it rb.it (unbound (clause.Within a b) h) ra.stood rb.stood lies);
+              (within_told a b h ra rb lies);
         }
     fact_told _ (claims_apart a b h pa pb) = λ r q er eq same p ip.
         let ka = place_in callee.params a in
         let kb = place_in callee.params b in
         let ra = region_argument ka pa.region in
         let rb = region_argument kb pb.region in
-        let whole = none_has (breaks_clause known callee.params (known_types w.tree w.scope es)) _ (clause.Apart a b)
-        (call_parts w.tree task w.scope (calling name (known_types w.tree w.scope es)) told.2).constrained
+        let whole = none_has (breaks_clause known callee.params given) _ (clause.Apart a b)
+        (call_parts w.tree task w.scope (calling name given) told.2).constrained
         (subst (λ cs. Has cs (clause.Apart a b)) (sym (told_soundly w.tree callee callee_sound.clauses)) h) in
         let lies = lies_apart known ra.type rb.type ra.region rb.region
-        (subst (λ u. are_not_apart known ra.type u ≡ false) rb.typed
-        (subst (λ u. are_not_apart known u (type_at (known_types w.tree w.scope es) kb) ≡ false) ra.typed whole)) in
-        let apart = stood_apart forms.keeps es ka kb ra.type rb.type ra.it rb.it (unbound (clause.Apart a b) h) ra.stood rb.stood lies in
+        (subst (λ u. are_not_apart known ra.type u ≡ false) (known_typed kb rb)
+        (subst (λ u. are_not_apart known u (type_at given kb) ≡ false) (known_typed ka ra) whole)) in
+        let apart = apart_there ka kb ra rb lies in
         let one : ra.it ≡ r = same_Some ra.it r (sym ra.at ∙ er) in
         let two : rb.it ≡ q = same_Some rb.it q (sym rb.at ∙ eq) in
-        not_there r q (subst (λ o. SharesNoPoint (meant r) (meant o)) two (subst (λ o. SharesNoPoint (meant o) (meant rb.it)) one apart)) same p ip
-      where
-        not_there : (r q : RegionValue) → SharesNoPoint (meant r) (meant q) → r.root.0 ≡ q.root.0 → (p : ℕ) → has r.points p ≡ true → has q.points p ≡ false
-        not_there r q none same p ip = of (has q.points p) refl
-          where
-            of : (b : Bool) → has q.points p ≡ b → has q.points p ≡ false
-            of true e = absurd (none r.root.0 p (refl, ip) (sym same, e))
-            of false e = e
+        none_there r q (subst (λ o. SharesNoPoint (meant r) (meant o)) two (subst (λ o. SharesNoPoint (meant o) (meant rb.it)) one apart)) same p ip
     fact_told _ (claims_parted p r d h) = parted_told p r d (cut_param w.tree callee p r d h) (cut_region w.tree callee p r d h callee_sound)
 
-    pub facts_told : Each (λ f. Holds f ws) (opening_facts (by_rules callee) w.tree callee)
+    pub facts_told : Each (λ f. Holds f ws) (opening_facts (by_rules tops callee) w.tree callee)
     facts_told = each_claimed w.tree callee callee_sound (λ f. Holds f ws) fact_told

@@ -32,16 +32,17 @@ use Rattle.fit_rules.specs.Fits.{Program}
 use Rattle.fit_rules.specs.Sound.{does_load, settled_number, settled_region}
 use Rattle.fit_laws.proofs.Keeping.{get_other, get_set, set_mark}
 use Rattle.sound_code.specs.Named.{HasPartBeside, HasSlots, IsNumbered, Ready, slot_at}
+use Rattle.sound_code.proofs.Plain.{plain_origin}
 use Rattle.sound_code.proofs.WholeTasks.{is_value, is_whole_expression}
 use Rattle.sound_code.specs.Ways.{origin_in, shape_in, shape_of, Way}
 use Rattle.sound_code.proofs.Asked.{Asked}
 use Rattle.sound_code.proofs.Besides.{NamesNoChild, part_named, parts_behind}
 use Rattle.sound_code.proofs.Bindings.{plain_stands}
-use Rattle.sound_code.proofs.Combining.{behind_kept, both, does, nothing_done, slot_high, slot_next, storing}
+use Rattle.sound_code.proofs.Combining.{behind_kept, both, does, nothing_done, slot_high, slot_next, storing, fixed_to, fixing}
 use Rattle.sound_code.proofs.Cuts.{Cut, cut_plain}
 use Rattle.sound_code.proofs.Expressions.{stored}
 use Rattle.sound_code.proofs.Narrowing.{named_behind, narrow_itself, narrow_set}
-use Rattle.sound_code.proofs.NoCuts.{IsNoPartition, worth_no_partition}
+use Rattle.sound_code.proofs.NoCuts.{IsNoCut, worth_no_partition}
 use Rattle.sound_code.proofs.Numbering.{each_numbered, numbered_at, numbered_more, numbered_set}
 use Rattle.sound_code.proofs.Placing.{named_at}
 use Rattle.sound_code.proofs.Scoped.{Scoped}
@@ -99,7 +100,7 @@ module _ (forms : Forms) (w : Where) where
 named_part : (way : Way) (params : ℕ) (bs : List Bound) (m : Mark) (b : Bound) (D V : Shape) → Ready way params bs m → slot_at params (length bs) + 2 < length m.slots →
     b.place ≡ length bs → shape_in way params b.static_type ≡ V → IsNumbered (b ∷ bs) D → IsNumbered (b ∷ bs) V →
     ((ss : List Shape) → slice_get ss (slot_at params (length bs) + 2) ≡ Some D → HasPartBeside way params ss bs b.place b.static_type) →
-    Ready way params (b ∷ bs) (set_mark (set_mark m (slot_at params (length bs) + 2) D []) (slot_at params (length bs)) V [])
+    Ready way params (b ∷ bs) (fixed_to (slot_at params (suc (length bs))) (set_mark (set_mark m (slot_at params (length bs) + 2) D []) (slot_at params (length bs)) V []))
 named_part way params bs m b D V r hi e es nd nv stood =
     let va = slot_at params (length bs) in
     let be = va + 2 in
@@ -122,6 +123,7 @@ named_part way params bs m b D V r hi e es nd nv stood =
       numbered = numbered_set (b ∷ bs) first va V (numbered_set (b ∷ bs) m.slots be D (each_numbered bs b m.slots r.numbered) nd) nv;
       facts = steady_below params (length bs) (suc (length bs)) m.facts (omega arith) r.facts;
       low = omega (arith, r.low);
+      fixed = refl;
     }
 
 module _ (g : Program) (t : TaskCode) (k slots : ℕ) (have : HasSlots t slots) (forms : Forms) (way : Way) (w : Where) (m : Mark)
@@ -132,9 +134,9 @@ module _ (g : Program) (t : TaskCode) (k slots : ℕ) (have : HasSlots t slots) 
   -- a pointer into a part is copied, and the part
   copy_marked : (x y : Name) (u : StaticType) → IsPointer u → names_child (reaches_of u) ≡ true → slice_get m.slots (slot_named w y) ≡ Some (shape_of u) →
       HasPartBeside way w.params m.slots w.scope.names (bound w y).place u → Scoped forms.keeps way (Named x (owned w.scope.next u) ∷ w.scope.names) →
-      Cut forms.keeps way w.params m.facts (Named x (owned w.scope.next u) ∷ w.scope.names) → (pc : ℕ) →
+      Cut forms.keeps way w.tree w.params m.facts (Named x (owned w.scope.next u) ∷ w.scope.names) → (pc : ℕ) →
       Stands t.body pc (plain_code w (owned w.scope.next u) (access_expr y no_step)) →
-      Followed g t k forms.keeps way w.params (Named x (owned w.scope.next u) ∷ w.scope.names) m
+      Followed g t k forms.keeps way w.tree w.params (Named x (owned w.scope.next u) ∷ w.scope.names) m
       (plain_code w (owned w.scope.next u) (access_expr y no_step) ⨟ op (instr.Store (slot_at w.params (length w.scope.names))) w.line)
   copy_marked x y _ (a_pointer_type c sp args (Some (term.Child p d) ∷ rs) aims) child there h scoped cut pc st =
       let r = asked.ready in
@@ -148,14 +150,14 @@ module _ (g : Program) (t : TaskCode) (k slots : ℕ) (have : HasSlots t slots) 
       let us : List Shape = pointer n ∷ [] in
       let first = set_mark m be D [] in
       let number = numbered_at bs m.slots _ D r.numbered h.shape in record {
-        next = set_mark first va (pointer n) [];
-        is = both g t k (both g t k
-            (both g t k (does g t k (stacked m []) (instr.Load (slot_named w y)) w.line us (does_load _ (pointer n) [] there (settled_number _ (numeric_pointer n))))
+        next = fixed_to (slot_at w.params (suc (length bs))) (set_mark first va (pointer n) []);
+        is = fixing g t k _ (set_mark first va (pointer n) []) _ _ (both g t k (both g t k
+            (both g t k (does g t k (stacked m []) (instr.Load (slot_named w y)) w.line us (does_load _ (pointer n) [] there (settled_number _ (numeric_pointer n)) tt))
             (nothing_done g t k _))
-            (both g t k (does g t k (stacked m us) (instr.Load (beside w (bound w y).place)) w.line (D ∷ us) (does_load _ D us h.shape (settled_region _ _)))
-            (storing g t k m be D D us w.line (behind_kept way w.params bs m be r (omega arith)) (omega (arith, high, asked.params)) hi (λ z v i. i))))
+            (both g t k (does g t k (stacked m us) (instr.Load (beside w (bound w y).place)) w.line (D ∷ us) (does_load _ D us h.shape (settled_region _ _) (plain_origin way w.params (term.Name (parent_of (bound_as bs p).static_type)))))
+            (storing g t k m be D D us w.line (behind_kept way w.params bs m be r (omega arith)) (omega (arith, high, asked.params)) (omega (arith, r.fixed)) (plain_origin way w.params (term.Name (parent_of (bound_as bs p).static_type))) hi (λ z v i. i))))
             (storing g t k first va (pointer n) (pointer n) [] w.line (behind_kept way w.params bs m va r (omega arith)) (omega (arith, high, asked.params))
-            (omega (arith, hi, length-set m.slots be D)) (λ z v i. i));
+            (omega (arith, r.fixed)) tt (omega (arith, hi, length-set m.slots be D)) (λ z v i. i)));
         ready = named_part way w.params bs m (Named x (pointer_type c sp args (Some (term.Child p d) ∷ rs))) D (pointer n) r hi refl refl
             (numbered_more bs (Named x (pointer_type c sp args (Some (term.Child p d) ∷ rs))) D number) tt (λ ss e. record {
               behind = r.low;
@@ -176,9 +178,9 @@ module _ (g : Program) (t : TaskCode) (k slots : ℕ) (have : HasSlots t slots) 
 
   copied_marked : (x : Name) (e : Expression) → IsCopy w e → names_child (reaches_of (typed w e)) ≡ true → IsWorth (typed w e) →
       Scoped forms.keeps way (Named x (owned w.scope.next (typed w e)) ∷ w.scope.names) →
-      Cut forms.keeps way w.params m.facts (Named x (owned w.scope.next (typed w e)) ∷ w.scope.names) → (pc : ℕ) →
+      Cut forms.keeps way w.tree w.params m.facts (Named x (owned w.scope.next (typed w e)) ∷ w.scope.names) → (pc : ℕ) →
       Stands t.body pc (form_code w (var_form x None (Some (plain_initializer e)))) →
-      Followed g t k forms.keeps way w.params (Named x (owned w.scope.next (typed w e)) ∷ w.scope.names) m (form_code w (var_form x None (Some (plain_initializer e))))
+      Followed g t k forms.keeps way w.tree w.params (Named x (owned w.scope.next (typed w e)) ∷ w.scope.names) m (form_code w (var_form x None (Some (plain_initializer e))))
   copied_marked x _ (is_copy y falls goes there) child worth scoped cut pc st = copy_marked x y (bound w y).static_type goes child
       (named_at way w.params m.slots w.scope.names y asked.ready.named there ∙ ap Some (worth_named way w.params _ worth))
       (part_named way w.params m.slots w.scope.next w.scope.names y falls asked.ready.beside there) scoped cut pc st.0
@@ -186,7 +188,7 @@ module _ (g : Program) (t : TaskCode) (k slots : ℕ) (have : HasSlots t slots) 
   pub begun_marked : (x : Name) (e : Expression) → ToldForm way w.tree w.scope (var_form x None (Some (plain_initializer e))) → IsKeepable forms.keeps w e → IsTyped forms w e →
       Asks forms.keeps (is_value true (owned w.scope.next (typed w e)) && is_whole_expression true w e) → (pc : ℕ) →
       Stands t.body pc (form_code w (var_form x None (Some (plain_initializer e)))) →
-      Followed g t k forms.keeps way w.params (after_form w (var_form x None (Some (plain_initializer e)))).scope.names m (form_code w (var_form x None (Some (plain_initializer e))))
+      Followed g t k forms.keeps way w.tree w.params (after_form w (var_form x None (Some (plain_initializer e)))).scope.names m (form_code w (var_form x None (Some (plain_initializer e))))
   begun_marked x e told keep typing whole pc st =
       let form = var_form x None (Some (plain_initializer e)) in
       let inside = asks_second forms.keeps _ (is_whole_expression true w e) whole in
@@ -198,7 +200,7 @@ module _ (g : Program) (t : TaskCode) (k slots : ℕ) (have : HasSlots t slots) 
       let scoped = scoped_bound forms.keeps way w.tree w.scope form b refl told asked.scoped
       (λ all. begun_scoped forms w all forms.keeps e w.scope.next keep typing) in
       let cut = cut_plain forms.keeps way w.tree w.scope form b w.params m.facts m.facts refl told (λ l h. h) asked.cut
-      (subst IsNoPartition (sym same) (worth_no_partition (typed w e) worth)) in
+      (subst IsNoCut (sym same) (worth_no_partition (typed w e) worth)) in
       ⊎_elim (λ child. copied_marked x e (begun_copy forms w forms.keeps e keep typing child) child worth scoped cut pc st)
       (λ none. bind_marked g t k slots have forms way w m asked x (shape_of (typed w e)) u _
       (λ x v. subst (λ s. Is x s v) (sym (ap (shape_in way w.params) same ∙ worth_named way w.params _ worth)))

@@ -62,7 +62,7 @@ module _ (g : Program) (t : TaskCode) (k : ℕ) (w : Where) (m : Mark) where
 
   index_of : (us vs : List Shape) (p : Piece) (v : Width) → Goes us p (integer v ∷ vs) → Goes us p (index ∷ vs)
   index_of us vs p v f = into g t k f
-      (λ x ss st q. record { slots = q.slots; stack = as_index x v vs st q.stack; facts = q.facts; top = tt; args = q.args }) refl
+      (λ x ss st q. record { slots = q.slots; stack = as_index _ v vs st q.stack; facts = q.facts; top = tt; args = q.args }) refl
 
   -- what counts as a number stands for it
   pub standing_counted : (u : StaticType) (us : List Shape) → IsCounting u → Goes (shape_of u ∷ us) (standing_code w u) (shape_of (counting_as u) ∷ us)

@@ -41,7 +41,7 @@ use Rattle.sound_code.proofs.WholeTasks.{is_whole_expression}
 use Rattle.sound_code.specs.Ways.{Way}
 use Rattle.sound_code.proofs.Asked.{Asked}
 use Rattle.sound_code.proofs.Below.{lies_below, parted_above}
-use Rattle.sound_code.proofs.Combining.{behind_kept, both, Marked, slot_high}
+use Rattle.sound_code.proofs.Combining.{behind_kept, both, Marked, slot_high, fixed_to, fixing}
 use Rattle.sound_code.proofs.Cuts.{cut_bound, place_as}
 use Rattle.sound_code.proofs.Parts.{cut_of as partition_of, IsCutOf}
 use Rattle.sound_code.proofs.Cutting.{any_partition, cut_by_field, cut_equal, cut_image, cut_join, cut_meet, cut_minus, cut_preimage, knowing, storing_cut}
@@ -49,7 +49,8 @@ use Rattle.sound_code.proofs.Granting.{allowed, InPlace, May}
 use Rattle.sound_code.proofs.Liking.{like_cut}
 use Rattle.sound_code.proofs.Narrowing.{narrow_itself, narrow_set}
 use Rattle.sound_code.proofs.Placing.{named_at, placed_at, region_named}
-use Rattle.sound_code.proofs.Scoped.{is_by_rules, IsByRules, placed_as, region_as}
+use Rattle.sound_code.proofs.Scoped.{is_by_rules, IsByRules, placed_as, region_as, region_found}
+use Rattle.code_laws.proofs.LocalGoals.{bound_among}
 use Rattle.sound_code.proofs.ScopedNames.{scoped_bound}
 use Rattle.sound_code.proofs.Statements.{Followed, named_more, new_name, space_marked}
 use Rattle.sound_code.proofs.Told.{told_head, ToldForm}
@@ -65,7 +66,7 @@ module _ (g : Program) (t : TaskCode) (k slots : ℕ) (have : HasSlots t slots) 
   bind_cut : (n : Name) (sp : Option ℕ) (d e : Bool) (r s : ℕ) (form : Form) (p : Piece) → ToldForm way w.tree w.scope form → (e ≡ true → d ≡ true) →
       IsRegion (bound_as w.scope.names r).static_type → s ≡ slot_bound w r →
       Marked g t k (stacked m []) p (topped m (partition sp d ∷ []) (top_parted s)) → slot_at w.params (length w.scope.names) < length m.slots →
-      Followed g t k forms.keeps way w.params (new_name g t k slots have forms way w m asked n (partition_type e r w.scope.next) ∷ w.scope.names) m
+      Followed g t k forms.keeps way w.tree w.params (new_name g t k slots have forms way w m asked n (partition_type e r w.scope.next) ∷ w.scope.names) m
       (p ⨟ op (instr.Store (slot_at w.params (length w.scope.names))) w.line)
   bind_cut n sp d e r s form p told flag region same f hi =
       let ready = asked.ready in
@@ -77,10 +78,10 @@ module _ (g : Program) (t : TaskCode) (k slots : ℕ) (have : HasSlots t slots) 
       let lower : slot_bound w r < slot = omega (arith, low) in
       let plain = named_more way w.params names m b ready hi refl tt refl in
       record {
-        next = knowing (parted slot s) (set_mark m slot (partition None e) []);
-        is = both g t k f (storing_cut g t k w.line m s slot (partition sp d) (partition None e) (behind_kept way w.params names m slot ready (omega arith))
-            (omega (arith, slot_high w.params (length names) ready.low, asked.params)) hi (λ q. omega (arith, q, same, lower))
-            (λ x v i. any_partition x sp d e v flag i));
+        next = fixed_to (slot_at w.params (suc (length names))) (knowing (parted slot s) (set_mark m slot (partition None e) []));
+        is = fixing g t k _ (knowing (parted slot s) (set_mark m slot (partition None e) [])) _ _ (both g t k f (storing_cut g t k w.line m s slot (partition sp d) (partition None e) (behind_kept way w.params names m slot ready (omega arith))
+            (omega (arith, slot_high w.params (length names) ready.low, asked.params)) hi (λ q. omega (arith, q, same, lower)) tt
+            (λ x v i. any_partition x sp d e v flag i)));
         ready = record {
           named = plain.named;
           beside = plain.beside;
@@ -91,12 +92,13 @@ module _ (g : Program) (t : TaskCode) (k slots : ℕ) (have : HasSlots t slots) 
             plain.facts,
           );
           low = plain.low;
+          fixed = refl;
         };
         narrower = narrow_set m.slots m.slots slot _ (narrow_itself m.slots) (inl (ready.free slot (omega arith) hi));
         facts = λ l a. inr a;
         scoped = scoped_bound forms.keeps way w.tree w.scope form b refl told asked.scoped (λ all. refl);
         cut = cut_bound forms.keeps way w.tree w.scope form b w.params m.facts (parted slot s ∷ m.facts) refl told (λ l a. inr a) asked.cut
-            (λ all. (region, inl (ap (parted slot) same)));
+            (λ tops task by. (region, inl (ap (parted slot) same)));
       }
 
   -- ---- what is known of partitions that names have
@@ -128,23 +130,23 @@ module _ (g : Program) (t : TaskCode) (k slots : ℕ) (have : HasSlots t slots) 
   -- a name's region that has a parameter's number stands in its place
   placed_of : (v : Way) → IsByRules v → (r : Name) → InPlace v w.params (bound w r).place (bound w r).static_type →
       OfType w.params (bound w r).place (bound w r).static_type
-  placed_of _ (is_by_rules task) r h = h
+  placed_of _ (is_by_rules tops task) r h = h
 
   placed_name : forms.keeps ≡ true → (r : Name) → IsParent w r → OfType w.params (bound w r).place (bound w r).static_type
   placed_name q r p = placed_of way (asked.ruled q) r (placed_at t way w.tree w.params w.scope r asked.ground p.named)
 
   placed_by : (v : Way) → IsByRules v → Ground t v w.tree w.params w.scope → (r : ℕ) → IsRegion (bound_as w.scope.names r).static_type →
       OfType w.params (bound_as w.scope.names r).place (bound_as w.scope.names r).static_type
-  placed_by _ (is_by_rules task) kept r is = placed_as w.params w.scope.names r kept.placed is
+  placed_by _ (is_by_rules tops task) kept r is = placed_as w.params w.scope.names r kept.placed is
 
   -- ---- statements
 
   abbrev Binds : Form → Type 0
-  Binds form = Followed g t k forms.keeps way w.params (after_form w form).scope.names m (form_code w form)
+  Binds form = Followed g t k forms.keeps way w.tree w.params (after_form w form).scope.names m (form_code w form)
 
   -- a name that begins so is bound to a partition of the region with a number, said to be disjoint or not
   abbrev Makes : Name → Bool → ℕ → Form → Type 0
-  Makes x c r form = Followed g t k forms.keeps way w.params
+  Makes x c r form = Followed g t k forms.keeps way w.tree w.params
       (new_name g t k slots have forms way w m asked x (partition_type c r w.scope.next) ∷ w.scope.names) m (form_code w form)
 
   -- so it is where its type is written
@@ -153,7 +155,7 @@ module _ (g : Program) (t : TaskCode) (k slots : ℕ) (have : HasSlots t slots) 
       ((c : Bool) → (c ≡ true → d ≡ true) → Makes x c r (var_form x (Some st) (Some start))) → Binds (var_form x (Some st) (Some start))
   said_cut x st start d r like made =
       let is = like_cut _ d r w.scope.next like in
-      subst (λ u. Followed g t k forms.keeps way w.params (new_name g t k slots have forms way w m asked x u ∷ w.scope.names) m
+      subst (λ u. Followed g t k forms.keeps way w.tree w.params (new_name g t k slots have forms way w m asked x u ∷ w.scope.names) m
       (form_code w (var_form x (Some st) (Some start)))) (sym is.is) (made is.flag is.disjoint)
 
   abbrev HasRoom : Type 0
@@ -204,7 +206,7 @@ module _ (g : Program) (t : TaskCode) (k slots : ℕ) (have : HasSlots t slots) 
       (scanned x r l init [] scan (may_scan way w x said r l init scan.parent.region scan.field refl told))
       (λ y vs st q. parted_above vs (slot_named w p) (slot_bound w number) (slot_named w r)
       (each_among (λ f. Holds f vs) m.facts (parted (slot_named w p) (slot_bound w number)) of.fact q.facts)
-      (lies_below g t k slots forms way w m asked (parent_bound w p) (bound w r) of.region scan.parent.region (placed_by way (asked.ruled keeps) asked.ground number of.region)
+      (lies_below g t k slots forms way w m asked keeps (parent_bound w p) (bound w r) (region_found w.scope.names number of.region).0 of.region scan.parent.region (placed_by way (asked.ruled keeps) asked.ground number of.region)
       (placed_name keeps r scan.parent) below y vs st q))) room
 
   pub preimage_marked : (x : Name) (said : Option TypeTerm) (c : Bool) (s p r l : Name) →
@@ -218,7 +220,7 @@ module _ (g : Program) (t : TaskCode) (k slots : ℕ) (have : HasSlots t slots) 
       (parent_region s parent) (parent_slot s parent)
       (cut_preimage g t k w.line m (slot_named w s) (slot_named w p) (slot_named w r) _ _ None _ of.disjoint (parent_there s parent) of.shape
       (scanned x r l init [] scan (may_scan way w x said r l init scan.parent.region scan.field refl told))
-      (lies_below g t k slots forms way w m asked (bound w s) (bound w r) parent.region scan.parent.region (placed_name keeps s parent)
+      (lies_below g t k slots forms way w m asked keeps (bound w s) (bound w r) (bound_among w.scope.names s parent.named) parent.region scan.parent.region (placed_name keeps s parent)
       (placed_name keeps r scan.parent) below)) room
 
   pub meet_marked : (x : Name) (said : Option TypeTerm) (c : Bool) (p q : Name) → ToldForm way w.tree w.scope (var_form x said (Some (both_initializer p q))) →
@@ -248,7 +250,7 @@ module _ (g : Program) (t : TaskCode) (k slots : ℕ) (have : HasSlots t slots) 
   -- a difference of two, by the types of both
   minus_by : (x : Name) (p q : Name) (u v : StaticType) → ToldForm way w.tree w.scope (var_form x None (Some (plain_initializer (difference p q)))) →
       IsPartition u → IsOf p (parent_of u) → is_disjoint (bound w p).static_type ≡ is_disjoint u → IsOf q (parent_of u) → HasRoom →
-      Followed g t k forms.keeps way w.params
+      Followed g t k forms.keeps way w.tree w.params
       (new_name g t k slots have forms way w m asked x (owned w.scope.next (operated (Compute Subtract) u v)) ∷ w.scope.names) m
       (plain_code w (owned w.scope.next (operated (Compute Subtract) u v)) (difference p q) ⨟ op (instr.Store (slot_at w.params (length w.scope.names))) w.line)
   minus_by x p q _ v told (a_partition_type d r i) one same two room =

@@ -1,5 +1,5 @@
 -- Where a body begins, types of parameters tell of which parameters' regions their partitions are.
-use Rattle.std.proofs.Common.{◌≡◌, inl, ℕ, ◌<◌, ◌≤◌, List, [], ◌∷◌, ◌++◌, Bool, true, false, cond, ◌&&◌, refl, sym, ap, ◌∙◌, subst, arith, ⊎_elim}
+use Rattle.std.proofs.Common.{◌≡◌, inl, ℕ, ◌<◌, ◌≤◌, List, [], ◌∷◌, ◌++◌, Bool, true, false, cond, ◌&&◌, Option, refl, sym, ap, ◌∙◌, subst, arith, ⊎_elim}
 use Rattle.std.specs.Prelude.{length, nat_lt, suc, ◌+◌, ◌==◌}
 use Rattle.std.proofs.lemmas.Bool.{lt-ltb}
 use Rattle.regent_tree.proofs.Members.{Has, Has-append_cases, Has-append_left, Has-append_right}
@@ -21,7 +21,7 @@ use Rattle.code_laws.specs.Simple.{IsRegion}
 use Rattle.fit_rules.specs.Shapes.{Among}
 use Rattle.fit_rules.specs.Marks.{Fact, parted}
 use Rattle.sound_code.specs.Named.{slot_at}
-use Rattle.sound_code.specs.Ways.{by_rules, opening_facts, told_by}
+use Rattle.sound_code.specs.Ways.{by_rules, none_begun, opening_facts, told_by}
 use Rattle.sound_code.proofs.Declaring.{has_among}
 use Rattle.sound_code.proofs.ScopedNames.{go_both}
 use Rattle.sound_code.proofs.Cuts.{AreCut, IsCut}
@@ -36,10 +36,10 @@ placed_low (b ∷ bs) i a r = chosen (b.number == i) (placed_low bs i a.2) r
     chosen true more r = omega (arith, a.1)
     chosen false more r = let low = more r in omega (arith, low)
 
-cut_behind : (params : ℕ) (ks : List Fact) (all bs : List Bound) (b : Bound) → AreCut params ks all bs → IsCut params ks all b.place b.static_type →
-    AreCut params ks all (bs ++ b ∷ [])
-cut_behind params ks all [] b a h = (h, tt)
-cut_behind params ks all (c ∷ bs) b a h = (a.0, cut_behind params ks all bs b a.1 h)
+cut_behind : (params : ℕ) (up : ℕ → Option (ℕ × ℕ)) (total : List Known) (ks : List Fact) (all bs : List Bound) (b : Bound) → AreCut params up total ks all bs → IsCut params up total ks all b.place b.static_type →
+    AreCut params up total ks all (bs ++ b ∷ [])
+cut_behind params up total ks all [] b a h = (h, tt)
+cut_behind params up total ks all (c ∷ bs) b a h = (a.0, cut_behind params up total ks all bs b a.1 h)
 
 -- what the last binding tells, and the others
 tells_last : (bs : List Bound) (b : Bound) (k : Known) → Has (known_of_type b.static_type) k → Has (known_of_params (bs ++ b ∷ [])) k
@@ -52,12 +52,12 @@ tells_others (c ∷ bs) b k h = ⊎_elim (λ l. Has-append_left (known_of_params
     (λ r. Has-append_right (known_of_params (bs ++ b ∷ [])) (known_of_type c.static_type) k r)
     (Has-append_cases (known_of_params bs) (known_of_type c.static_type) k h)
 
-module _ (tree : Tree) (t : TaskTree) where
+module _ (tree : Tree) (t : TaskTree) (up : ℕ → Option (ℕ × ℕ)) (total : List Known) where
   abbrev all : List Bound
   all = (scope_of tree t).names
 
   abbrev ks : List Fact
-  ks = opening_facts (by_rules t) tree t
+  ks = opening_facts (by_rules none_begun t) tree t
 
   abbrev params : ℕ
   params = length t.params
@@ -71,14 +71,14 @@ module _ (tree : Tree) (t : TaskTree) where
 
   type_cut : (i : ℕ) (u : TypeTerm) → i < params → GoToParams all (record { name = []; number = i; place = i; static_type = type_said tree (among_params t.params) i u; by_loop = false } ∷ []) →
       ((k : Known) → Has (known_of_type (type_said tree (among_params t.params) i u)) k → Has (known_of_params all) k) →
-      IsCut params ks all i (type_said tree (among_params t.params) i u)
+      IsCut params up total ks all i (type_said tree (among_params t.params) i u)
   type_cut i (typing.Number number.Int32) l h told = tt
   type_cut i (typing.Number number.Int64) l h told = tt
   type_cut i (typing.Number (number.Index k)) l h told = tt
   type_cut i typing.Truth l h told = tt
   type_cut i (typing.Pointer p) l h told = tt
   type_cut i (typing.Ispace k) l h told = tt
-  type_cut i (typing.Region k u) l h told = tt
+  type_cut i (typing.Region k u) l h told = λ q high e. absurd (omega (arith, l, high))
   type_cut i (typing.Partition d r c) l h told =
       let q = binding_of (among_params t.params r) in
       let goal = h.0 in
@@ -93,15 +93,15 @@ module _ (tree : Tree) (t : TaskTree) where
 
   params_cut : (i : ℕ) (qs : List Param) → i + length qs ≤ params → GoToParams all (bound_params tree t.params i qs) →
       ((k : Known) → Has (known_of_params (bound_params tree t.params i qs)) k → Has (known_of_params all) k) →
-      AreCut params ks all (bound_params tree t.params i qs)
+      AreCut params up total ks all (bound_params tree t.params i qs)
   params_cut i [] l h told = tt
   params_cut i (q ∷ qs) l h told =
       let bs = bound_params tree t.params (suc i) qs in
       let b : Bound = record { name = q.name; number = i; place = i; static_type = type_said tree (among_params t.params) i q.term; by_loop = false } in
       let both = go_both all bs b h in
-      cut_behind params ks all bs b (params_cut (suc i) qs (omega (arith, l)) both.0 (λ k a. told k (tells_others bs b k a)))
+      cut_behind params up total ks all bs b (params_cut (suc i) qs (omega (arith, l)) both.0 (λ k a. told k (tells_others bs b k a)))
       (type_cut i q.term (omega (arith, l)) (both.1, tt) (λ k a. told k (tells_last bs b k a)))
 
   -- the parameters of a task, whose partitions are of parameters
-  pub opening_cut : AllGoToParams all → AreCut params ks all all
+  pub opening_cut : AllGoToParams all → AreCut params up total ks all all
   opening_cut h = params_cut 0 t.params (omega arith) h (λ k a. a)

@@ -1,9 +1,9 @@
 -- The code that makes partitions, that keeps them, and that goes through their colours has marks; of a partition that is kept is
 -- known of which region it is.
-use Rattle.std.proofs.Common.{◌≡◌, inl, ℕ, zero, suc, ◌<◌, ◌≤◌, List, [], ◌∷◌, Bool, true, false, ◌||◌, None, Option, Some, refl, sym, ap, ◌∙◌, subst, arith}
-use Rattle.std.specs.Prelude.{length, slice_get, slice_set}
+use Rattle.std.proofs.Common.{◌≡◌, inl, ℕ, ℤ, ◌<◌, ◌≤◌, List, [], ◌∷◌, ◌++◌, Bool, true, false, ◌||◌, None, Option, Some, refl, sym, ap, ◌∙◌, subst, arith}
+use Rattle.std.specs.Prelude.{length, slice_get, slice_set, take}
 use Rattle.std.proofs.lemmas.List.{length-set}
-use Rattle.std.proofs.lemmas.Option.{none-some, same_Some}
+use Rattle.std.proofs.lemmas.Option.{same_Some}
 use Rattle.lane_kernels.specs.declared.numbers.Mode.TheVariants as mode
 use Rattle.regent_tree.specs.Syntax.{field_step, Name, no_step}
 use Rattle.regent_tree.specs.Typing.{type_of_field}
@@ -11,6 +11,7 @@ use Rattle.regent_tree.specs.declared.typing.StaticType.{StaticType}
 use Rattle.task_code.specs.declared.code.TaskCode.{TaskCode}
 use Rattle.task_code.specs.declared.instr.Instr.{Instr}
 use Rattle.task_code.specs.declared.instr.Instr.TheVariants as instr
+use Rattle.machine_terms.specs.declared.value.PartitionValue.{PartitionValue}
 use Rattle.machine_terms.specs.declared.value.RegionValue.{RegionValue}
 use Rattle.machine_terms.specs.declared.value.Value.{Value}
 use Rattle.machine_terms.specs.declared.value.Value.TheVariants as value
@@ -22,16 +23,19 @@ use Rattle.code_rules.specs.Pieces.{op, ◌⨟◌}
 use Rattle.code_rules.specs.Slots.{own_slot, slot, Where}
 use Rattle.code_laws.specs.Simple.{a_partition_type, IsPartition}
 use Rattle.code_laws.specs.Steps.{Forms}
+use Rattle.fit_laws.proofs.Held.{none_held, plain_held, region_held}
 use Rattle.fit_laws.proofs.Keeping.{are_first, are_others, get_other, get_set, set_mark}
 use Rattle.fit_laws.proofs.Lookup.{as_long, each_among, set_at, value_at}
 use Rattle.fit_laws.proofs.Pointers.{among_coloured}
-use Rattle.fit_rules.specs.Shapes.{Among, Are, are_more, are_none, ComesFrom, cut_from, Each, Is, is_cut, is_number, is_partition, is_region, IsRegion, Numeric, numeric_index, numeric_integer, numeric_pointer, numeric_truth, Origin, part, partition, region, Shape, space, unknown, World}
-use Rattle.fit_rules.specs.Marks.{any_colour, child_in, Fact, Holds, HoldsTop, in_slot, IsParted, lies, LiesAt, LiesIn, Mark, parted, stacked, Stores, Suits, top_colour, TopFact, top_lies, topped, top_parted}
+use Rattle.fit_rules.specs.Shapes.{Among, Are, are_more, child_at, ComesFrom, cut_from, Each, held_at, Is, is_cut, IsCutOf, is_number, is_partition, is_region, IsPlain, IsPlainOrigin, IsRegion, Numeric, numeric_index, numeric_integer, numeric_pointer, numeric_truth, Origin, part, partition, region, Shape, space, unknown, World}
+use Rattle.fit_rules.specs.Marks.{any_colour, around, child_in, Colour, colour_in, HasColour, Into, IsChild, Fact, Holds, HoldsTop, in_slot, IsParted, lies, LiesAt, LiesIn, Mark, parted, point_in, stacked, Stores, Suits, the_colour, top_colour, TopFact, top_at, topped, top_parted}
 use Rattle.fit_rules.specs.Fits.{Program}
-use Rattle.fit_rules.specs.Sound.{Allowed, does_colors, does_load, HasPartition, HasRegion, settled_cut}
-use Rattle.marked_code.specs.Marked.{Leads, leads_child, leads_colouring, leads_cutting, leads_image, leads_join, leads_meet, leads_minus, leads_on, leads_preimage, leads_storing, typed_from, typed_op}
+use Rattle.fit_rules.specs.Sound.{Allowed, does_colors, does_load_as, HasPartition, HasRegion, settled_cut, settled_region}
+use Rattle.marked_code.specs.Marked.{Leads, leads_child, leads_colouring, leads_cutting, leads_image, leads_join, leads_meet, leads_minus, leads_preimage, leads_storing, typed_from, typed_op}
+use Rattle.sound_code.specs.Named.{IsWrittenColour}
 use Rattle.sound_code.specs.Ways.{shape_in, shape_of, Way}
 use Rattle.sound_code.proofs.Asked.{Asked}
+use Rattle.sound_code.proofs.Colours.{child_taken, IsUnder, stays_at}
 use Rattle.sound_code.proofs.Combining.{both, does, into, Keeps, Marked, nothing_done}
 
 -- a partition of a field space is one of any, and known to be disjoint where that was known
@@ -49,25 +53,6 @@ any_partition x sp d e _ i (is_partition _ _ q h) = is_partition None e q (recor
   regions = λ r a. let o = h.regions r a in (o.0, any_space x sp r o.1);
 })
 
--- ---- slots of which more is known
-
-is_there : {A : Type 0} (xs : List A) (i : ℕ) (a : A) → slice_get xs i ≡ Some a → i < length xs
-is_there [] i a e = absurd (none-some a e)
-is_there (x ∷ xs) zero a e = omega arith
-is_there (x ∷ xs) (suc i) a e = let l = is_there xs i a e in omega (arith, l)
-
-slot_known : (x : World) (ss : List Shape) (vs : List Value) (i : ℕ) (a : Shape) (v : Value) → Are x ss vs → slice_get vs i ≡ Some v → Is x a v →
-    Are x (slice_set ss i a) vs
-slot_known x _ _ i a v are_none at h = are_none
-slot_known x _ _ zero a v (are_more s w ss vs g r) at h = are_more a w ss vs (subst (Is x a) (sym (same_Some w v at)) h) r
-slot_known x _ _ (suc i) a v (are_more s w ss vs g r) at h = are_more s w (slice_set ss i a) vs g (slot_known x ss vs i a v r at h)
-
-slot_as_before : (x : World) (ss : List Shape) (vs : List Value) (i : ℕ) (a b : Shape) → slice_get ss i ≡ Some b → ((v : Value) → Is x a v → Is x b v) →
-    Are x (slice_set ss i a) vs → Are x ss vs
-slot_as_before x [] vs i a b e less r = r
-slot_as_before x (s ∷ ss) _ zero a b e less (are_more _ v _ vs h r) = are_more s v ss vs (subst (λ c. Is x c v) (sym (same_Some s b e)) (less v h)) r
-slot_as_before x (s ∷ ss) _ (suc i) a b e less (are_more _ v _ vs h r) = are_more s v ss vs h (slot_as_before x ss vs i a b e less r)
-
 -- ---- a partition that is stored
 
 -- the one on top of the stack is of the region in a slot, and so it is where it stands in a slot itself
@@ -82,127 +67,245 @@ parted_there vs st (value.Space z) s p n l h = absurd h
 parted_there vs st (value.Region z) s p n l h = absurd h
 parted_there vs st (value.Pending z) s p n l h = absurd h
 
+-- colours that name no slot
+written_set : (vs us : List Value) (c : Colour) (z : ℤ) → IsWrittenColour c → HasColour vs c z → HasColour us c z
+written_set vs us (the_colour y) z w h = h
+written_set vs us (colour_in s) z w h = absurd w
+written_set vs us (point_in s) z w h = absurd w
+written_set vs us any_colour z w h = h
+
+-- a child of a partition is that, in a slot, and lies within the region in another of which the partition is
+piece_there : (vs st : List Value) (v : Value) (q s p : ℕ) (c : Colour) → (p ≡ s → ⊥) → (p ≡ q → ⊥) → p < length vs → IsWrittenColour c → Holds (parted q s) vs →
+    HoldsTop (top_at (child_in q c)) vs (v ∷ st) →
+    Holds (lies (in_slot p) (child_in q c)) (slice_set vs p v) × Holds (lies (in_slot p) (in_slot s)) (slice_set vs p v)
+piece_there vs st (value.Region r) q s p c n o l written parts h = (
+  λ d e. record {
+    other = r;
+    at = record {
+      parts = h.parts;
+      there = ap partition_in (get_other vs p q (value.Region r) o) ∙ h.there;
+      colour = h.colour;
+      has_colour = written_set vs (slice_set vs p (value.Region r)) c h.colour written h.has_colour;
+      child = h.child;
+    };
+    inside = subst (λ y. LiesIn y r) (same_Some r d (sym (ap region_in (get_set vs p (value.Region r) l)) ∙ e)) (refl, λ i y. y);
+  },
+  λ d e.
+      let w = parts h.parts h.there in
+      let same : r ≡ d = same_Some r d (sym (ap region_in (get_set vs p (value.Region r) l)) ∙ e) in
+      subst (λ y. LiesAt (slice_set vs p (value.Region r)) y (in_slot s)) same
+      (record { other = w.parent; at = ap region_in (get_other vs p s (value.Region r) n) ∙ w.at; inside = w.inside r (among_coloured h.parts.children h.colour r h.child) }),
+)
+piece_there vs st (value.Number z) q s p c n o l written parts h = absurd h
+piece_there vs st (value.Space z) q s p c n o l written parts h = absurd h
+piece_there vs st (value.Partition z) q s p c n o l written parts h = absurd h
+piece_there vs st (value.Pending z) q s p c n o l written parts h = absurd h
+
+abbrev knowing_all : List Fact → Mark → Mark
+knowing_all fs m = record m { facts = fs ++ m.facts }
+
+each_onto : (P : Fact → Type 0) (fs ks : List Fact) → Each P fs → Each P ks → Each P (fs ++ ks)
+each_onto P [] ks h q = q
+each_onto P (f ∷ fs) ks h q = (h.0, each_onto P fs ks h.1 q)
+
 abbrev pub knowing : Fact → Mark → Mark
 knowing f m = record m { facts = f ∷ m.facts }
 
 module _ (g : Program) (t : TaskCode) (k line : ℕ) (m : Mark) where
-  pub storing_cut : (s p : ℕ) (a b : Shape) → Keeps m p → t.params ≤ p → p < length m.slots → (p ≡ s → ⊥) → ((x : World) (v : Value) → Is x a v → Is x b v) →
-      Marked g t k (topped m (a ∷ []) (top_parted s)) (op (instr.Store p) line) (knowing (parted p s) (set_mark m p b []))
-  storing_cut s p a b kept lo hi n h = record {
+  -- what is known of the top of the stack is known of the slot into which it goes
+  storing_known : (p : ℕ) (a b : Shape) (top : TopFact) (fs : List Fact) → Keeps m p → t.params ≤ p → p < length m.slots → IsPlain b →
+      ((x : World) (v : Value) → Is x a v → Is x b v) →
+      ((vs st : List Value) (v : Value) → p < length vs → Each (λ f. Holds f vs) m.facts → HoldsTop top vs (v ∷ st) → Each (λ f. Holds f (slice_set vs p v)) fs) →
+      Marked g t k (topped m (a ∷ []) top) (op (instr.Store p) line) (knowing_all fs (set_mark m p b []))
+  storing_known p a b top fs kept lo hi plain h there = record {
     marks = _;
-    is = typed_op _ _ _ line (leads_storing (topped m (a ∷ []) (top_parted s)) (knowing (parted p s) (set_mark m p b [])) p a [] refl hi stores
-        (length-set m.slots p b));
+    is = typed_op _ _ _ line (leads_storing (topped m (a ∷ []) top) (knowing_all fs (set_mark m p b [])) p a [] refl hi stores (length-set m.slots p b));
   }
     where
-      stores : Stores t.params (topped m (a ∷ []) (top_parted s)) p (knowing (parted p s) (set_mark m p b []))
+      stores : Stores t.params (topped m (a ∷ []) top) p (knowing_all fs (set_mark m p b []))
       stores x vs st v q = record {
-        slots = set_at x m.slots vs p b v q.slots (h x v (are_first x a [] v st q.stack));
-        stack = are_others x a [] v st q.stack;
-        facts = (parted_there vs st v s p n (omega (arith, hi, as_long x m.slots vs q.slots)) q.top.0, kept vs v q.facts);
+        slots = set_at x m.slots vs p b v q.slots
+            (plain_held (around x m vs) x.held b v plain (h (around x m vs) v (are_first (around x m vs) a [] v st q.stack)));
+        stack = none_held _ _ st (are_others (around x m vs) a [] v st q.stack);
+        facts = each_onto (λ f. Holds f (slice_set vs p v)) fs m.facts (there vs st v (omega (arith, hi, as_long x m.slots vs q.slots)) q.facts q.top.0) (kept vs v q.facts);
         top = tt;
         args = λ i o. ap region_in (get_other vs p i v (λ d. omega (arith, d, o, lo))) ∙ q.args i o;
       }
 
+  pub storing_cut : (s p : ℕ) (a b : Shape) → Keeps m p → t.params ≤ p → p < length m.slots → (p ≡ s → ⊥) → IsPlain b → ((x : World) (v : Value) → Is x a v → Is x b v) →
+      Marked g t k (topped m (a ∷ []) (top_parted s)) (op (instr.Store p) line) (knowing (parted p s) (set_mark m p b []))
+  storing_cut s p a b kept lo hi n plain h =
+      storing_known p a b (top_parted s) (parted p s ∷ []) kept lo hi plain h (λ vs st v l all top. (parted_there vs st v s p n l top, tt))
+
+  -- a child of a partition, of the region in a slot, lies within that, and is known as that child
+  pub storing_piece : (s q p : ℕ) (c : Colour) (a b : Shape) → Keeps m p → t.params ≤ p → p < length m.slots → (p ≡ s → ⊥) → (p ≡ q → ⊥) → IsWrittenColour c → IsPlain b →
+      Among m.facts (parted q s) → ((x : World) (v : Value) → Is x a v → Is x b v) →
+      Marked g t k (topped m (a ∷ []) (top_at (child_in q c))) (op (instr.Store p) line)
+      (knowing (lies (in_slot p) (child_in q c)) (knowing (lies (in_slot p) (in_slot s)) (set_mark m p b [])))
+  storing_piece s q p c a b kept lo hi n o written plain fact h =
+      storing_known p a b (top_at (child_in q c)) (lies (in_slot p) (child_in q c) ∷ lies (in_slot p) (in_slot s) ∷ []) kept lo hi plain h (λ vs st v l all top.
+      let both = piece_there vs st v q s p c n o l written (each_among (λ f. Holds f vs) m.facts (parted q s) fact all) top in (both.0, (both.1, tt)))
+
   -- ---- a part
 
   -- the number on top may be any colour
-  any_coloured : (x : World) (a : Shape) (us : List Shape) (vs st : List Value) → Numeric a → Are x (a ∷ us) st → HoldsTop (top_colour any_colour) vs st
+  pub any_coloured : (x : World) (a : Shape) (us : List Shape) (vs st : List Value) → Numeric a → Are x (a ∷ us) st → HoldsTop (top_colour any_colour) vs st
   any_coloured x _ us vs _ (numeric_integer w) (are_more _ _ _ st (is_number _ z h) b) = tt
   any_coloured x _ us vs _ numeric_truth (are_more _ _ _ st (is_number _ z h) b) = tt
   any_coloured x _ us vs _ numeric_index (are_more _ _ _ st (is_number _ z h) b) = tt
   any_coloured x _ us vs _ (numeric_pointer n) (are_more _ _ _ st (is_number _ z h) b) = tt
 
   -- a child lies within the region in a slot, of which the partition is
-  child_within : (x : World) (vs : List Value) (p s sp : ℕ) (o : Origin) (r : RegionValue) → Holds (parted p s) vs → Are x m.slots vs →
-      slice_get m.slots s ≡ Some (region (Some sp) o) → IsRegion x None unknown r → LiesAt vs r (child_in p any_colour) → Is x (region (Some sp) (part o)) (value.Region r)
-  child_within x vs p s sp o r parts slots e i h =
+  child_within : (x : World) (vs : List Value) (p s sp : ℕ) (c : Colour) (o : Origin) (r : RegionValue) → IsPlainOrigin o → p < m.fixed → IsUnder m.fixed c →
+      Holds (parted p s) vs → Are x m.slots vs → slice_get m.slots s ≡ Some (region (Some sp) o) → IsRegion (around x m vs) None unknown r → IsChild vs p c r →
+      Is (around x m vs) (region (Some sp) (child_at p c o)) (value.Region r)
+  child_within x vs p s sp c o r plain low under parts slots e i h =
       let v = value_at x m.slots vs s (region (Some sp) o) slots e in of v.value v.at v.of
     where
-      of : (v : Value) → slice_get vs s ≡ Some v → Is x (region (Some sp) o) v → Is x (region (Some sp) (part o)) (value.Region r)
+      of : (v : Value) → slice_get vs s ≡ Some v → Is x (region (Some sp) o) v → Is (around x m vs) (region (Some sp) (child_at p c o)) (value.Region r)
       of _ at (is_number _ z f) = absurd f
       of _ at (is_region _ _ q f) =
-          let w = parts h.at.parts h.at.there in
+          let w = parts h.parts h.there in
           let same : q ≡ w.parent = same_Some q w.parent (sym (ap region_in at) ∙ w.at) in
-          let inside = w.inside h.other (among_coloured h.at.parts.children h.at.colour h.other h.at.child) in
-          let over : LiesIn r w.parent = (h.inside.0 ∙ inside.0, λ n y. inside.1 n (h.inside.1 n y)) in
-          is_region (Some sp) (part o) r (record {
+          let over : LiesIn r w.parent = w.inside r (among_coloured h.parts.children h.colour r h.child) in
+          is_region (Some sp) (child_at p c o) r (record {
             there = i.there;
             space = ap x.spaces over.0 ∙ subst (λ (d : RegionValue). x.spaces d.root.0 ≡ sp) same f.space;
             set = i.set;
             points = i.points;
-            origin = (w.parent, subst (ComesFrom x o) same f.origin, over);
+            origin = (
+              w.parent,
+              subst (ComesFrom (around x m vs) o) same (region_held x (take m.fixed vs) (Some sp) o q plain f).origin,
+              over,
+              child_taken m.fixed vs p c r low under h,
+            );
           })
 
-  pub cut_child : (p s sp : ℕ) (d : Bool) (o : Origin) (a : Shape) (us : List Shape) → Numeric a → slice_get m.slots p ≡ Some (partition None d) →
-      slice_get m.slots s ≡ Some (region (Some sp) o) → Among m.facts (parted p s) →
-      Marked g t k (stacked m (a ∷ us)) (op (instr.Child p) line) (stacked m (region (Some sp) (part o) ∷ us))
-  cut_child p s sp d o a us n hp hs fact =
-      let known = topped m (a ∷ us) (top_colour any_colour) in
+  -- where the number on top is its colour
+  taken_child : (p s sp : ℕ) (d : Bool) (c : Colour) (o : Origin) (a : Shape) (us : List Shape) → Numeric a → IsPlainOrigin o → p < m.fixed → IsUnder m.fixed c →
+      slice_get m.slots p ≡ Some (partition None d) → slice_get m.slots s ≡ Some (region (Some sp) o) → Among m.facts (parted p s) →
+      Marked g t k (topped m (a ∷ us) (top_colour c)) (op (instr.Child p) line) (topped m (region (Some sp) (child_at p c o) ∷ us) (top_at (child_in p c)))
+  taken_child p s sp d c o a us n plain low under hp hs fact =
+      let known = topped m (a ∷ us) (top_colour c) in
       into g t k (record {
         marks = _;
-        is = typed_from (stacked m (a ∷ us)) known (topped m (region None unknown ∷ us) (top_lies (child_in p any_colour))) _ _
-            (λ x vs st q. record { slots = q.slots; stack = q.stack; facts = q.facts; top = (any_coloured x a us vs st n q.stack, tt); args = q.args })
-            (typed_op known _ (instr.Child p) line (leads_child known p None a us any_colour refl n (record { disjoint = d; shape = hp }) (inl refl))) refl;
+        is = typed_op known (topped m (region None unknown ∷ us) (top_at (child_in p c))) (instr.Child p) line
+            (leads_child known p None a us c refl n (record { disjoint = d; shape = hp }) (inl refl));
       }) (λ x vs st q. record {
         slots = q.slots;
         stack = of x vs st q.slots q.facts q.stack q.top.0;
         facts = q.facts;
-        top = tt;
+        top = q.top;
         args = q.args;
       }) refl
     where
-      of : (x : World) (vs st : List Value) → Are x m.slots vs → Each (λ f. Holds f vs) m.facts → Are x (region None unknown ∷ us) st →
-          HoldsTop (top_lies (child_in p any_colour)) vs st → Are x (region (Some sp) (part o) ∷ us) st
+      of : (x : World) (vs st : List Value) → Are x m.slots vs → Each (λ f. Holds f vs) m.facts → Are (around x m vs) (region None unknown ∷ us) st →
+          HoldsTop (top_at (child_in p c)) vs st → Are (around x m vs) (region (Some sp) (child_at p c o) ∷ us) st
       of x vs _ slots facts (are_more _ _ _ st (is_region _ _ r i) b) h =
-          are_more _ _ us st (child_within x vs p s sp o r (each_among (λ f. Holds f vs) m.facts (parted p s) fact facts) slots hs i h) b
+          are_more _ _ us st (child_within x vs p s sp c o r plain low under (each_among (λ f. Holds f vs) m.facts (parted p s) fact facts) slots hs i h) b
       of x vs _ slots facts (are_more _ _ _ st (is_number _ z f) b) h = absurd f
 
-  -- ---- partitions that are loaded
+  pub cut_child : (p s sp : ℕ) (d : Bool) (c : Colour) (o : Origin) (a : Shape) (us : List Shape) → Numeric a → IsPlainOrigin o → p < m.fixed → IsUnder m.fixed c →
+      slice_get m.slots p ≡ Some (partition None d) → slice_get m.slots s ≡ Some (region (Some sp) o) → Among m.facts (parted p s) →
+      Marked g t k (topped m (a ∷ us) (top_colour c)) (op (instr.Child p) line) (stacked m (region (Some sp) (child_at p c o) ∷ us))
+  cut_child p s sp d c o a us n plain low under hp hs fact = into g t k (taken_child p s sp d c o a us n plain low under hp hs fact)
+      (λ x vs st q. record { slots = q.slots; stack = q.stack; facts = q.facts; top = tt; args = q.args }) refl
+
+  -- by any colour
+  pub colour_any : (a : Shape) (us : List Shape) → Numeric a → Into t.params (stacked m (a ∷ us)) (topped m (a ∷ us) (top_colour any_colour))
+  colour_any a us n x vs st q =
+      record { slots = q.slots; stack = q.stack; facts = q.facts; top = (any_coloured _ a us vs st n q.stack, tt); args = q.args }
+
+  less_child : (x : World) (sp : Option ℕ) (p : ℕ) (c : Colour) (o : Origin) (us : List Shape) (st : List Value) → Are x (region sp (child_at p c o) ∷ us) st →
+      Are x (region sp (part o) ∷ us) st
+  less_child x sp p c o us _ (are_more _ _ _ st (is_region _ _ r h) b) = are_more _ _ us st (is_region sp (part o) r (record {
+    there = h.there;
+    space = h.space;
+    set = h.set;
+    points = h.points;
+    origin = (h.origin.0, h.origin.1, h.origin.2);
+  })) b
+  less_child x sp p c o us _ (are_more _ _ _ st (is_number _ z f) b) = absurd f
+
+  -- a child of which the colour is known
+  pub taken_piece : (p s sp : ℕ) (d : Bool) (c : Colour) (o : Origin) (a : Shape) (us : List Shape) → Numeric a → IsPlainOrigin o → p < m.fixed → IsUnder m.fixed c →
+      slice_get m.slots p ≡ Some (partition None d) → slice_get m.slots s ≡ Some (region (Some sp) o) → Among m.facts (parted p s) →
+      Marked g t k (topped m (a ∷ us) (top_colour c)) (op (instr.Child p) line) (topped m (region (Some sp) (part o) ∷ us) (top_at (child_in p c)))
+  taken_piece p s sp d c o a us n plain low under hp hs fact =
+      into g t k (taken_child p s sp d c o a us n plain low under hp hs fact)
+      (λ x vs st q. record { slots = q.slots; stack = less_child _ (Some sp) p c o us st q.stack; facts = q.facts; top = q.top; args = q.args }) refl
+
+  -- the child itself is on top
+  pub taken_any_child : (p s sp : ℕ) (d : Bool) (o : Origin) (a : Shape) (us : List Shape) → Numeric a → IsPlainOrigin o → p < m.fixed →
+      slice_get m.slots p ≡ Some (partition None d) → slice_get m.slots s ≡ Some (region (Some sp) o) → Among m.facts (parted p s) →
+      Marked g t k (stacked m (a ∷ us)) (op (instr.Child p) line) (topped m (region (Some sp) (part o) ∷ us) (top_at (child_in p any_colour)))
+  taken_any_child p s sp d o a us n plain low hp hs fact =
+      into g t k (both_from (taken_child p s sp d any_colour o a us n plain low tt hp hs fact))
+      (λ x vs st q. record { slots = q.slots; stack = less_child _ (Some sp) p any_colour o us st q.stack; facts = q.facts; top = q.top; args = q.args }) refl
+    where
+      both_from : Marked g t k (topped m (a ∷ us) (top_colour any_colour)) (op (instr.Child p) line)
+          (topped m (region (Some sp) (child_at p any_colour o) ∷ us) (top_at (child_in p any_colour))) →
+          Marked g t k (stacked m (a ∷ us)) (op (instr.Child p) line) (topped m (region (Some sp) (child_at p any_colour o) ∷ us) (top_at (child_in p any_colour)))
+      both_from f = record { marks = _; is = typed_from (stacked m (a ∷ us)) (topped m (a ∷ us) (top_colour any_colour)) _ _ _ (colour_any a us n) f.is refl }
+
+  -- ---- regions and partitions that are loaded
+
+  from_slot : (x : World) (vs : List Value) (s sp : ℕ) (o : Origin) (v : Value) → IsPlainOrigin o → Is x (region (Some sp) o) v → (r : RegionValue) →
+      region_in (Some v) ≡ Some r → ComesFrom (around x m vs) o r
+  from_slot x vs s sp o _ plain (is_number _ z f) r at = absurd f
+  from_slot x vs s sp o _ plain (is_region _ _ q f) r at =
+      subst (ComesFrom (around x m vs) o) (same_Some q r at) (region_held x (take m.fixed vs) (Some sp) o q plain f).origin
+
+  -- a region in a slot that stays is known as the one there
+  region_known : (x : World) (vs : List Value) (s sp : ℕ) (o : Origin) (v : Value) → IsPlainOrigin o → s < m.fixed → slice_get vs s ≡ Some v →
+      Is x (region (Some sp) o) v → Is (around x m vs) (region (Some sp) (held_at s o)) v
+  region_known x vs s sp o _ plain low at (is_number _ z f) = absurd f
+  region_known x vs s sp o _ plain low at (is_region _ _ r f) =
+      let i = region_held x (take m.fixed vs) (Some sp) o r plain f in is_region (Some sp) (held_at s o) r (record {
+        there = i.there;
+        space = i.space;
+        set = i.set;
+        points = i.points;
+        origin = (i.origin, ap region_in (stays_at m.fixed vs s low) ∙ ap region_in at);
+      })
+
+  pub region_taken : (s sp : ℕ) (o : Origin) (us : List Shape) → IsPlainOrigin o → s < m.fixed → slice_get m.slots s ≡ Some (region (Some sp) o) →
+      Marked g t k (stacked m us) (op (instr.Load s) line) (stacked m (region (Some sp) (held_at s o) ∷ us))
+  region_taken s sp o us plain low hs = does g t k (stacked m us) (instr.Load s) line _
+      (does_load_as s (region (Some sp) o) (region (Some sp) (held_at s o)) us hs (settled_region (Some sp) (held_at s o)) (λ x vs st q v at.
+      let w = value_at x m.slots vs s (region (Some sp) o) q.slots hs in
+      region_known x vs s sp o v plain low at (subst (Is x (region (Some sp) o)) (same_Some w.value v (sym w.at ∙ at)) w.of)))
+
+  as_cut : (x : World) (d : Bool) (o : Origin) (v : Value) → Is x (partition None d) v → ((q : PartitionValue) → partition_in (Some v) ≡ Some q → IsCutOf x o q) →
+      Is x (cut_from None d o) v
+  as_cut x d o _ (is_partition _ _ q i) h = is_cut None d o q i (h q refl)
+  as_cut x d o _ (is_number _ z f) h = absurd f
 
   -- what is known of a partition in a slot, by the region in another of which it is
-  cut_known : (x : World) (vs : List Value) (p s sp : ℕ) (d : Bool) (o : Origin) (v : Value) → Holds (parted p s) vs → Are x m.slots vs →
-      slice_get m.slots s ≡ Some (region (Some sp) o) → slice_get vs p ≡ Some v → Is x (partition None d) v → Is x (cut_from None d o) v
-  cut_known x vs p s sp d o _ parts slots e at (is_number _ z f) = absurd f
-  cut_known x vs p s sp d o _ parts slots e at (is_partition _ _ q i) =
-      let w = parts q (ap partition_in at) in
-      let v = value_at x m.slots vs s (region (Some sp) o) slots e in
-      is_cut None d o q i (record { parent = w.parent; origin = of w.parent v.value (sym (ap region_in v.at) ∙ w.at) v.of; root = w.root; inside = w.inside })
-    where
-      of : (r : RegionValue) (v : Value) → region_in (Some v) ≡ Some r → Is x (region (Some sp) o) v → ComesFrom x o r
-      of r _ at (is_number _ z f) = absurd f
-      of r _ at (is_region _ _ q f) = subst (ComesFrom x o) (same_Some q r at) f.origin
+  cut_known : (x : World) (vs : List Value) (p s sp : ℕ) (d : Bool) (o : Origin) (v : Value) → IsPlainOrigin o → s < m.fixed → Holds (parted p s) vs →
+      Are x m.slots vs → slice_get m.slots s ≡ Some (region (Some sp) o) → slice_get vs p ≡ Some v → Is x (partition None d) v →
+      Is (around x m vs) (cut_from None d (held_at s o)) v
+  cut_known x vs p s sp d o v plain low parts slots e at i =
+      as_cut (around x m vs) d (held_at s o) v (plain_held x (take m.fixed vs) (partition None d) v tt i) (λ q is.
+      let w = parts q (ap partition_in at ∙ is) in
+      let u = value_at x m.slots vs s (region (Some sp) o) slots e in record {
+        parent = w.parent;
+        origin = (
+          from_slot x vs s sp o u.value plain u.of w.parent (sym (ap region_in u.at) ∙ w.at),
+          ap region_in (stays_at m.fixed vs s low) ∙ w.at,
+        );
+        root = w.root;
+        inside = w.inside;
+      })
 
-  less_known : (x : World) (d : Bool) (o : Origin) (v : Value) → Is x (cut_from None d o) v → Is x (partition None d) v
-  less_known x d o _ (is_cut _ _ _ q i c) = is_partition None d q i
-  less_known x d o _ (is_number _ z f) = absurd f
-
-  pub cut_loaded : (p s sp : ℕ) (d : Bool) (o : Origin) (us : List Shape) → slice_get m.slots p ≡ Some (partition None d) →
+  pub cut_loaded : (p s sp : ℕ) (d : Bool) (o : Origin) (us : List Shape) → IsPlainOrigin o → s < m.fixed → slice_get m.slots p ≡ Some (partition None d) →
       slice_get m.slots s ≡ Some (region (Some sp) o) → Among m.facts (parted p s) →
-      Marked g t k (stacked m us) (op (instr.Load p) line) (stacked m (cut_from None d o ∷ us))
-  cut_loaded p s sp d o us hp hs fact =
-      let known : Mark = record (stacked m us) { slots = slice_set m.slots p (cut_from None d o) } in
-      into g t k (record {
-        marks = _;
-        is = typed_from (stacked m us) known (stacked known (cut_from None d o ∷ us)) _ _
-            (λ x vs st q.
-            let v = value_at x m.slots vs p (partition None d) q.slots hp in record {
-              slots = slot_known x m.slots vs p (cut_from None d o) v.value q.slots v.at
-                  (cut_known x vs p s sp d o v.value (each_among (λ f. Holds f vs) m.facts (parted p s) fact q.facts) q.slots hs v.at v.of);
-              stack = q.stack;
-              facts = q.facts;
-              top = tt;
-              args = q.args;
-            })
-            (typed_op known _ (instr.Load p) line (leads_on known (instr.Load p) (cut_from None d o ∷ us)
-            (does_load p (cut_from None d o) us (get_set m.slots p (cut_from None d o) (is_there m.slots p (partition None d) hp)) (settled_cut None d o))))
-            (length-set m.slots p (cut_from None d o));
-      }) (λ x vs st q. record {
-        slots = slot_as_before x m.slots vs p (cut_from None d o) (partition None d) hp (λ v. less_known x d o v) q.slots;
-        stack = q.stack;
-        facts = q.facts;
-        top = tt;
-        args = q.args;
-      }) (sym (length-set m.slots p (cut_from None d o)))
+      Marked g t k (stacked m us) (op (instr.Load p) line) (stacked m (cut_from None d (held_at s o) ∷ us))
+  cut_loaded p s sp d o us plain low hp hs fact = does g t k (stacked m us) (instr.Load p) line _
+      (does_load_as p (partition None d) (cut_from None d (held_at s o)) us hp (settled_cut None d (held_at s o)) (λ x vs st q v at.
+      let w = value_at x m.slots vs p (partition None d) q.slots hp in
+      cut_known x vs p s sp d o v plain low (each_among (λ f. Holds f vs) m.facts (parted p s) fact q.facts) q.slots hs at
+      (subst (Is x (partition None d)) (same_Some w.value v (sym w.at ∙ at)) w.of)))
 
   -- ---- partitions that are made
 

@@ -1,7 +1,7 @@
 -- Over what loops go: index spaces, of which indices are taken, and regions that have names and parts of partitions, of which
 -- pointers are taken. Of a part is known within which region it lies.
-use Rattle.std.proofs.Common.{◌≡◌, inl, inr, ℕ, ◌+◌, List, [], ◌∷◌, Bool, true, false, cond, Some, refl, sym, ap, ◌∙◌, subst, arith, ⊎_elim}
-use Rattle.std.specs.Prelude.{length, nat_le, slice_get}
+use Rattle.std.proofs.Common.{◌≡◌, inl, inr, ℕ, ◌+◌, List, [], ◌∷◌, Bool, true, false, Some, refl, sym, ap, ◌∙◌, subst, arith, ⊎_elim}
+use Rattle.std.specs.Prelude.{length, slice_get}
 use Rattle.std.proofs.lemmas.Bool.{false≢true, or_cases, and_parts}
 use Rattle.regent_tree.specs.Accesses.{space_in}
 use Rattle.regent_tree.specs.Scopes.{bound_as}
@@ -29,18 +29,19 @@ use Rattle.code_laws.specs.Steps.{Forms}
 use Rattle.code_laws.specs.Typed.{IsIndexed, IsNamedRegion, IsOwnCut, IsOwnRegion, IsTyped, LoopsOverPart}
 use Rattle.code_laws.proofs.Wider.{loops_over}
 use Rattle.fit_laws.proofs.Lookup.{any_region}
-use Rattle.fit_rules.specs.Shapes.{Are, are_more, argument, index, is_number, is_region as is_region_value, Origin, own_as, part, pointer, region, Shape, space, unknown, World}
+use Rattle.fit_rules.specs.Shapes.{Are, are_more, index, is_number, is_region as is_region_value, IsPlainOrigin, Origin, part, pointer, region, Shape, space, unknown, World}
 use Rattle.fit_rules.specs.Marks.{Mark, stacked}
 use Rattle.fit_rules.specs.Fits.{Program}
 use Rattle.fit_rules.specs.Sound.{does_load, settled_region}
 use Rattle.sound_code.specs.Named.{HasPartBeside, HasSlots, IsNumbered, IsOfNumber, IsPartBeside, parent_as, slot_at}
 use Rattle.sound_code.proofs.WholeTasks.{is_whole_domain, is_whole_expression, names_region, takes_part}
-use Rattle.sound_code.specs.Ways.{all_made, by_rules, origin_in, shape_in, shape_of, Way}
+use Rattle.sound_code.specs.Ways.{origin_in, shape_in, shape_of, Way}
 use Rattle.sound_code.proofs.Asked.{Asked}
 use Rattle.sound_code.proofs.Combining.{both, does, into, Marked, nothing_done}
-use Rattle.sound_code.proofs.Parts.{cut_of, IsCutOf, part_code}
-use Rattle.sound_code.proofs.Numbering.{number_among}
+use Rattle.sound_code.proofs.Parts.{parent_there, cut_of, IsCutOf, part_code}
+use Rattle.sound_code.proofs.Numbering.{numbered_at}
 use Rattle.sound_code.proofs.Placing.{named_at}
+use Rattle.sound_code.proofs.Plain.{plain_origin}
 use Rattle.sound_code.proofs.PointLoops.{IsDomain, regions, spaces}
 use Rattle.sound_code.proofs.Statements.{value_marked}
 use Rattle.sound_code.proofs.Taken.{Over}
@@ -74,14 +75,14 @@ module _ (way : Way) (params : ℕ) (bs : List Bound) where
   }
 
   -- of a region from anywhere
-  abbrev pub takes_pointers : (u : StaticType) (o : Origin) → IsRegion u → IsOfNumber bs o →
+  abbrev pub takes_pointers : (u : StaticType) (o : Origin) → IsRegion u → IsOfNumber bs o → IsPlainOrigin o →
       ((ss : List Shape) → slice_get ss (slot_at params (length bs) + 2) ≡ Some (region (Some (space_in u)) o) →
       HasPartBeside way params ss bs (length bs) (taken_from u)) → Takes way params bs u
-  takes_pointers _ o (a_region_type c sp args r) numbered beside = record {
+  takes_pointers _ o (a_region_type c sp args r) numbered plain beside = record {
     D = region (Some sp) o;
     V = pointer 1;
     ptr = true;
-    domain = regions (Some sp) o;
+    domain = regions (Some sp) o plain;
     is_ptr = refl;
     shape = refl;
     worth = worth_pointer c sp args (Some r ∷ []) (omega arith);
@@ -160,8 +161,8 @@ module _ (g : Program) (t : TaskCode) (k slots : ℕ) (have : HasSlots t slots) 
   loaded : (place : ℕ) (u : StaticType) → IsRegion u → slice_get m.slots place ≡ Some (shape_in way w.params u) →
       Goes [] (one w (instr.Load place)) (region (Some (space_in u)) unknown ∷ [])
   loaded place _ (a_region_type c sp args r) there = into g t k
-      (does g t k (stacked m []) (instr.Load place) w.line _ (does_load place (region (Some sp) (origin_in way w.params r)) [] there (settled_region (Some sp) _)))
-      (λ x vs st q. record { slots = q.slots; stack = any_origin (Some sp) (origin_in way w.params r) x st q.stack; facts = q.facts; top = tt; args = q.args }) refl
+      (does g t k (stacked m []) (instr.Load place) w.line _ (does_load place (region (Some sp) (origin_in way w.params r)) [] there (settled_region (Some sp) _) (plain_origin way w.params r)))
+      (λ x vs st q. record { slots = q.slots; stack = any_origin (Some sp) (origin_in way w.params r) _ st q.stack; facts = q.facts; top = tt; args = q.args }) refl
 
   -- ---- parts
 
@@ -177,15 +178,7 @@ module _ (g : Program) (t : TaskCode) (k slots : ℕ) (have : HasSlots t slots) 
 
     -- it is numbered by a name
     parent_numbered : IsOfNumber w.scope.names (within n)
-    parent_numbered = by way
-      where
-        by : (v : Way) → IsOfNumber w.scope.names (origin_in v w.params (term.Name (parent n)))
-        by all_made = tt
-        by (by_rules task) = chosen (nat_le w.params (parent n))
-          where
-            chosen : (b : Bool) → IsOfNumber w.scope.names (cond b (own_as (parent n)) (argument (parent n)))
-            chosen true = number_among w.scope.names (parent n) of.region
-            chosen false = tt
+    parent_numbered = numbered_at w.scope.names m.slots _ _ asked.ready.numbered (parent_there g t k slots forms way w m asked n keeps cut)
 
     part_beside : (e : Expression) → IsOwnCut w n → (ss : List Shape) →
         slice_get ss (slot_at w.params (length w.scope.names) + 2) ≡ Some (region (Some (space_in (bound_as w.scope.names (parent n)).static_type)) (within n)) →
@@ -203,7 +196,7 @@ module _ (g : Program) (t : TaskCode) (k slots : ℕ) (have : HasSlots t slots) 
     part_space e own = ap (λ u. space_in (type_of_element w.scope u e)) own ∙ child_space (bound_as w.scope.names (parent n)).static_type _ of.region
 
     abbrev part_taken : (e : Expression) → IsOwnCut w n → IsRegion (typed w (access_expr n (at_step e no_step))) → Taken (access_expr n (at_step e no_step))
-    part_taken e own is = takes_pointers way w.params w.scope.names (typed w (access_expr n (at_step e no_step))) (within n) is parent_numbered
+    part_taken e own is = takes_pointers way w.params w.scope.names (typed w (access_expr n (at_step e no_step))) (within n) is parent_numbered (plain_origin way w.params (term.Name (parent n)))
         (λ ss there. part_beside e own ss (subst (λ sp. slice_get ss (slot_at w.params (length w.scope.names) + 2) ≡ Some (region (Some sp) (within n))) (part_space e own) there))
 
   -- ---- domains
@@ -227,29 +220,29 @@ module _ (g : Program) (t : TaskCode) (k slots : ℕ) (have : HasSlots t slots) 
         is = space_domain (typed w e) s (value_marked g t k slots have forms way w m asked e [] o.1 (λ q. space_whole w e s (whole q)) told pc st);
       }
 
-      region_domain : (u : StaticType) (is : IsRegion u) (ob : _) (b : _) (p : Piece) → Goes [] p (region (Some (space_in u)) unknown ∷ []) →
-          Goes [] p ((takes_pointers way w.params w.scope.names u unknown is ob b).D ∷ [])
-      region_domain _ (a_region_type c sp args r) ob b p f = f
+      region_domain : (u : StaticType) (is : IsRegion u) (ob : _) (b : _) (pl : _) (p : Piece) → Goes [] p (region (Some (space_in u)) unknown ∷ []) →
+          Goes [] p ((takes_pointers way w.params w.scope.names u unknown is ob pl b).D ∷ [])
+      region_domain _ (a_region_type c sp args r) ob b pl p f = f
 
       of_region : (e : Expression) → IsTyped forms w e → IsNamedRegion w e → Domain e
       of_region (access_expr x no_step) f r = record {
-        taken = takes_pointers way w.params w.scope.names (bound w x).static_type unknown r.0 tt
+        taken = takes_pointers way w.params w.scope.names (bound w x).static_type unknown r.0 tt tt
             (λ ss there. named_beside way w.params w.scope.names w (access_expr x no_step) r ss);
-        is = region_domain (bound w x).static_type r.0 tt _ _ (both g t k
+        is = region_domain (bound w x).static_type r.0 tt _ tt _ (both g t k
             (loaded (slot_named w x) (bound w x).static_type r.0 (named_at way w.params m.slots w.scope.names x asked.ready.named f.0)) (nothing_done g t k _));
       }
       of_region _ f r = absurd r
   domain_marked e (inr p) whole told pc st = of_part e p.0 p.1 whole told pc st
     where
-      part_domain : (u : StaticType) (is : IsRegion u) (o : Origin) (ob : _) (b : _) (sp : ℕ) (p : Piece) → space_in u ≡ sp → Goes [] p (region (Some sp) o ∷ []) →
-          Goes [] p ((takes_pointers way w.params w.scope.names u o is ob b).D ∷ [])
-      part_domain _ (a_region_type c sq args r) o ob b sp p e f = subst (λ y. Goes [] p (region (Some y) o ∷ [])) (sym e) f
+      part_domain : (u : StaticType) (is : IsRegion u) (o : Origin) (ob : _) (pl : _) (b : _) (sp : ℕ) (p : Piece) → space_in u ≡ sp → Goes [] p (region (Some sp) o ∷ []) →
+          Goes [] p ((takes_pointers way w.params w.scope.names u o is ob pl b).D ∷ [])
+      part_domain _ (a_region_type c sq args r) o ob pl b sp p e f = subst (λ y. Goes [] p (region (Some y) o ∷ [])) (sym e) f
 
       of_part : (e : Expression) → forms.keeps ≡ true → LoopsOverPart w e (IsIndexed forms w e) → Asks forms.keeps (is_whole_domain true w e) →
           Told way w.tree w.scope e → (pc : ℕ) → Stands t.body pc (expr_code w 0 e) → Domain e
       of_part (access_expr n (at_step e no_step)) keeps p whole told pc st = record {
         taken = part_taken n keeps p.0 e p.1 p.2;
-        is = part_domain (typed w (access_expr n (at_step e no_step))) p.2 (within n) _ _ _ _ (part_space n keeps p.0 e p.1)
+        is = part_domain (typed w (access_expr n (at_step e no_step))) p.2 (within n) _ _ _ _ _ (part_space n keeps p.0 e p.1)
             (part_code g t k slots forms way w m asked n keeps p.0 0 [] (bound w n).static_type e p.0.partition p.3.1
             (λ q s. value_marked g t k slots have forms way w m asked e [] p.3.0 (λ b. part_whole w n e (whole b)) (told_at w.tree w.scope way n e told) q s) pc st);
       }

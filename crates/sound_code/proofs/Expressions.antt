@@ -1,13 +1,12 @@
 -- The code of expressions has marks: each leads from a mark to the same with a value on the stack.
-use Rattle.sound_code.proofs.Parts.{cut_code, part_code, part_regions}
+use Rattle.sound_code.proofs.Plain.{plain_shape}
+use Rattle.sound_code.proofs.Parts.{child_code, coloured, cut_code, part_regions}
 use Rattle.code_laws.specs.Arguments.{IsCutName}
-use Rattle.regent_tree.specs.declared.facts.Term.TheVariants as term
-use Rattle.regent_tree.specs.Scopes.{bound_as}
 use Rattle.std.proofs.lemmas.Bool.{and_parts, false≢true, or_cases}
 use Rattle.code_laws.proofs.Wider.{any_field, compared, converting, counting, signed_as}
 use Rattle.code_laws.specs.Pointers.{HasSigns, signs_counted, signs_plain, IsCounting}
 use Rattle.regent_tree.specs.declared.expression.Sign.TheVariants.{Minus}
-use Rattle.std.proofs.Common.{◌≡◌, inl, ℕ, suc, ◌<◌, ◌≤◌, List, [], ◌∷◌, None, Some, refl, sym, ap, ◌∙◌, subst, arith, ⊎_elim, true, Bool, false, ◌||◌}
+use Rattle.std.proofs.Common.{◌≡◌, inl, ℕ, suc, ◌<◌, ◌≤◌, List, [], ◌∷◌, Some, refl, sym, ap, ◌∙◌, subst, arith, ⊎_elim, true, Bool, false, ◌||◌}
 use Rattle.std.specs.Prelude.{length}
 use Rattle.std.proofs.lemmas.List.{length-set}
 use Rattle.regent_tree.specs.declared.expression.Operator.TheVariants.{Or, And, Compare, Compute}
@@ -16,7 +15,7 @@ use Rattle.regent_tree.specs.declared.typing.StaticType.{StaticType}
 use Rattle.regent_tree.specs.declared.typing.StaticType.TheVariants.{Integer as integer_type, Truth as truth_type}
 use Rattle.regent_tree.specs.StaticTypes.{task_named}
 use Rattle.regent_tree.specs.Syntax.{Name, Expression, number_expr, truth_expr, chain_expr, prefix_expr, access_expr, call_expr, convert_expr, space_expr, Expressions, no_expr, an_expr, Links, no_link, a_link, no_step, field_step, at_step, is_null_expr, null_expr, cast_expr}
-use Rattle.regent_tree.specs.Typing.{is_disjoint, linked_type, param_types, params_at, signed_type, parent_of}
+use Rattle.regent_tree.specs.Typing.{linked_type, param_types, params_at, signed_type}
 use Rattle.regent_tree.specs.Values.{kept_truth}
 use Rattle.task_code.specs.declared.code.TaskCode.{TaskCode}
 use Rattle.task_code.specs.declared.instr.Instr.TheVariants as instr
@@ -29,19 +28,19 @@ use Rattle.code_laws.specs.Simple.{IsSimple, simple_integer, simple_truth, simpl
 use Rattle.code_laws.specs.Standing.{Stands}
 use Rattle.code_laws.specs.Steps.{Forms}
 use Rattle.code_laws.specs.Typed.{ArePassed, IsIndexed, IsTyped, AreTypedLinks}
-use Rattle.fit_rules.specs.Shapes.{Shape, awaited, cut_from, integer, truth, space, Numeric, numeric_integer, numeric_truth, part, region}
+use Rattle.fit_rules.specs.Shapes.{Shape, awaited, integer, truth, space, Numeric, numeric_integer, numeric_truth}
 use Rattle.fit_rules.specs.Marks.{Mark, stacked}
 use Rattle.fit_rules.specs.Fits.{Program}
 use Rattle.fit_rules.specs.Sound.{does_num, does_load, does_negate, does_invert, does_space}
 use Rattle.marked_code.specs.Marked.{leads_waiting, typed_op, typed_and, typed_or}
 use Rattle.fit_laws.proofs.Keeping.{get_set, set_mark}
 use Rattle.sound_code.specs.Named.{slot_at, HasSlots}
-use Rattle.sound_code.specs.Ways.{Way, shape_of, origin_in}
+use Rattle.sound_code.specs.Ways.{Way, shape_of}
 use Rattle.sound_code.proofs.Granting.{allowed, May}
 use Rattle.sound_code.proofs.WholeTasks.{are_whole_arguments, are_whole_links, is_whole_expression, names_region, takes_part}
 use Rattle.sound_code.proofs.Counting.{becomes, compares, compute_counted, number_counted, signs_counted as counted_signs, standing_counted}
 use Rattle.sound_code.proofs.Wholes.{Asks, asks_first, asks_second, Becomes, given_whole, HasFew, read_worth, value_worth, regions_asked, whole_argument, worth_few, worth_named, worth_settled, index_whole, region_no_partition}
-use Rattle.sound_code.proofs.Handed.{all_handed, cut_handed, cut_unconverted, given_cut_is, handed, handed_unconverted, worth_handed, given_part, part_handed, same_code}
+use Rattle.sound_code.proofs.Handed.{all_handed, cut_handed, cut_unconverted, given_cut_is, handed, handed_unconverted, worth_handed, given_child, part_handed, same_code}
 use Rattle.sound_code.proofs.Cutting.{colours_marked}
 use Rattle.sound_code.proofs.Pointing.{behind_marked, cast_marked, element_at, null_asked, null_marked}
 use Rattle.sound_code.proofs.Handing.{calls, handed_marked}
@@ -56,12 +55,12 @@ use Rattle.regent_tree.specs.declared.rights.Access.{Access}
 use Rattle.regent_tree.specs.declared.rights.Access.TheVariants.{Read}
 use Rattle.fit_rules.specs.Sound.{Allowed}
 use Rattle.code_laws.specs.Typed.{IsAnyField}
-use Rattle.sound_code.proofs.Asked.{Asked, ruled}
+use Rattle.sound_code.proofs.Asked.{Asked}
 use Rattle.sound_code.proofs.Calling.{onto, scalar_numeric}
 use Rattle.sound_code.proofs.Combining.{Marked, nothing_done, both, does, into, behind_kept, slot_high, storing}
 use Rattle.sound_code.proofs.Elements.{reads}
 use Rattle.sound_code.proofs.Further.{behind_further, point_further, told_point}
-use Rattle.sound_code.proofs.Narrowing.{narrow_itself, narrow_set, narrow_into, same_facts}
+use Rattle.sound_code.proofs.Narrowing.{narrow_itself, narrow_set, narrow_over, same_facts}
 use Rattle.fit_laws.proofs.Numbers.{truth_is}
 
 -- ---- types
@@ -156,13 +155,13 @@ module _ (g : Program) (t : TaskCode) (k slots : ℕ) (have : HasSlots t slots) 
       let high = slot_high w.params (length w.scope.names) ready.low in
       into g t k (both g t k
       (storing g t k m s (awaited r) (awaited r) us w.line (behind_kept way w.params w.scope.names m s ready low)
-      (omega (arith, low, high, asked.params)) hi (λ x v h. h))
+      (omega (arith, low, high, asked.params)) (omega (arith, low, ready.fixed)) tt hi (λ x v h. h))
       (record {
         marks = _;
         is = typed_op _ _ _ w.line (leads_waiting (set_mark m s (awaited r) us) s r (get_set m.slots s (awaited r) hi) nr
             (steady_stand w.params (length w.scope.names) _ m.facts ready.facts));
       }))
-      (narrow_into t.params (set_mark m s (awaited r) us) m (r ∷ us)
+      (narrow_over t.params (set_mark m s (awaited r) us) m (r ∷ us) refl
       (narrow_set m.slots m.slots s (awaited r) (narrow_itself m.slots) (inl (ready.free s low hi))) (same_facts _ _ refl))
       (sym (length-set m.slots s (awaited r)))
 
@@ -175,33 +174,28 @@ module _ (g : Program) (t : TaskCode) (k slots : ℕ) (have : HasSlots t slots) 
       (named_at way w.params m.slots w.scope.names n asked.ready.named field.named) (placed_at t way w.tree w.params w.scope n asked.ground field.named)
       field.field may
 
-  -- a part is left on the stack, as what lies within the region of which its partition is
+  -- a part is left on the stack, as the child by its colour, which lies within the region of which its partition is
   part_passed : (d : ℕ) (us : List Shape) (p : StaticType) (e : Expression) (u : StaticType) (n : Name) (i : Expression) → e ≡ access_expr n (at_step i no_step) →
-      forms.keeps ≡ true → IsCutName w n → AreRegions (typed w e) p → IsCounting (typed w i) →
+      forms.keeps ≡ true → IsCutName w n → AreRegions (typed w e) p → IsTyped forms w i → IsCounting (typed w i) →
       ((pc : ℕ) → Stands t.body pc (expr_code w d i) → Goes us (expr_code w d i) (shape_of (typed w i) ∷ us)) → (pc : ℕ) → Stands t.body pc (expr_code w d e) →
-      Goes us (expr_code w d e) (handed w p e ∷ us)
-  part_passed d us p e u n i same keeps cut regions counting marked pc st =
-      let code = part_code g t k slots forms way w m asked n keeps cut d us (bound w n).static_type i cut.partition counting marked pc
+      Goes us (expr_code w d e) (handed way w p e ∷ us)
+  part_passed d us p e u n i same keeps cut regions fine counting marked pc st =
+      let code = child_code g t k slots forms way w m asked n keeps cut d us (bound w n).static_type i cut.partition counting
+      (λ q s. coloured g t k slots forms way w m asked d us i fine counting (marked q s)) pc
       (subst (λ y. Stands t.body pc (expr_code w d y)) same st) in
       let here = subst (λ y. AreRegions (typed w y) p) same regions in
-      let by = (ruled g t k slots forms way w m asked keeps).by in
-      subst (λ y. Goes us (expr_code w d y) (handed w p y ∷ us)) (sym same)
-      (subst (λ s. Goes us (expr_code w d (access_expr n (at_step i no_step))) (s ∷ us)) (sym (part_handed w n i _ p here))
-      (subst (λ sp. Goes us (expr_code w d (access_expr n (at_step i no_step))) (given_part w.params sp (parent_of (bound w n).static_type) ∷ us))
-      (sym (part_regions w n i p cut.partition here))
-      (subst (λ v. Goes us (expr_code w d (access_expr n (at_step i no_step)))
-      (region (Some (space_in (bound_as w.scope.names (parent_of (bound w n).static_type)).static_type)) (part (origin_in v w.params (term.Name (parent_of (bound w n).static_type)))) ∷ us)) by code)))
+      subst (λ y. Goes us (expr_code w d y) (handed way w p y ∷ us)) (sym same)
+      (subst (λ s. Goes us (expr_code w d (access_expr n (at_step i no_step))) (s ∷ us)) (sym (part_handed way w n i _ p here))
+      (subst (λ sp. Goes us (expr_code w d (access_expr n (at_step i no_step))) (given_child way w sp n i ∷ us))
+      (sym (part_regions w n i p cut.partition here)) code))
 
   -- and a partition, as one of the region of which it is
   cut_passed : (d : ℕ) (us : List Shape) (p : StaticType) (e : Expression) (n : Name) → e ≡ access_expr n no_step → forms.keeps ≡ true → IsCutName w n →
-      IsPartition p → Goes us (expr_code w d e) (handed w p e ∷ us)
+      IsPartition p → Goes us (expr_code w d e) (handed way w p e ∷ us)
   cut_passed d us p e n same keeps named is =
-      let u = (bound w n).static_type in
-      let by = (ruled g t k slots forms way w m asked keeps).by in
-      subst (λ y. Goes us (expr_code w d y) (handed w p y ∷ us)) (sym same)
-      (subst (λ s. Goes us (expr_code w d (access_expr n no_step)) (s ∷ us)) (sym (cut_handed w n p is ∙ given_cut_is w.params u named.partition))
-      (subst (λ v. Goes us (expr_code w d (access_expr n no_step)) (cut_from None (is_disjoint u) (origin_in v w.params (term.Name (parent_of u))) ∷ us)) by
-      (cut_code g t k slots forms way w m asked n keeps named d us)))
+      subst (λ y. Goes us (expr_code w d y) (handed way w p y ∷ us)) (sym same)
+      (subst (λ s. Goes us (expr_code w d (access_expr n no_step)) (s ∷ us)) (sym (cut_handed way w n p is ∙ given_cut_is way w (bound w n).static_type named.partition))
+      (cut_code g t k slots forms way w m asked n keeps named d us))
 
   mutual
     pub expr_marked : (d : ℕ) (e : Expression) (us : List Shape) → IsTyped forms w e → Asks forms.keeps (is_whole_expression true w e) →
@@ -211,7 +205,7 @@ module _ (g : Program) (t : TaskCode) (k slots : ℕ) (have : HasSlots t slots) 
     expr_marked d (access_expr x no_step) us fine whole told pc st =
         let is = read_worth forms.keeps _ fine.1 whole in
         let h = named_at way w.params m.slots w.scope.names x asked.ready.named fine.0 ∙ ap Some (worth_named way w.params _ is) in
-        both g t k (does g t k _ (instr.Load (slot_named w x)) w.line _ (does_load _ _ us h (worth_settled _ is))) (nothing_done g t k _)
+        both g t k (does g t k _ (instr.Load (slot_named w x)) w.line _ (does_load _ _ us h (worth_settled _ is) (plain_shape _))) (nothing_done g t k _)
     expr_marked d (access_expr x (at_step e (field_step f no_step))) us fine whole told pc st =
         let field = any_field forms.keeps w x f _ fine.3 in
         let number = counting forms.keeps _ fine.1 in
@@ -234,8 +228,8 @@ module _ (g : Program) (t : TaskCode) (k slots : ℕ) (have : HasSlots t slots) 
         let same = asked.known.results place u fine.2.0 in
         let nr : Numeric (g.results place) = subst Numeric (sym same) (scalar_numeric _ fine.1) in
         subst (λ y. Goes us (expr_code w d (call_expr task args)) (y ∷ us)) same
-        (both g t k (args_marked d (params_at w.tree w.scope u args) types args us fine.3 (asks_first _ _ _ whole) (told_call w.tree w.scope way task args told) pc st.0)
-        (both g t k (calls g t k slots forms way w m asked task (params_at w.tree w.scope u args) args us fine.2 fine.3 (asks_first _ _ _ whole) (asks_second _ _ _ whole) (told_called w.tree w.scope way task args told))
+        (both g t k (args_marked d (params_at w.tree w.scope u args) types args us fine.3 whole (told_call w.tree w.scope way task args told) pc st.0)
+        (both g t k (calls g t k slots forms way w m asked task (params_at w.tree w.scope u args) args us fine.2 fine.3 whole (told_called w.tree w.scope way task args told))
         (awaited_marked (spare w d) (g.results place) us nr (omega arith) (stored _ (spare w d) st.1.1.0))))
     expr_marked d (convert_expr c e) us fine whole told pc st =
         let number = counting forms.keeps _ fine.1 in
@@ -322,31 +316,32 @@ module _ (g : Program) (t : TaskCode) (k slots : ℕ) (have : HasSlots t slots) 
 
     -- arguments of parameters of these types
     pub args_marked : (d : ℕ) (ts ps : List StaticType) (es : Expressions) (us : List Shape) → ArePassed forms w ts ps es → Asks forms.keeps (are_whole_arguments true w ps es) →
-        ToldArgs way w.tree w.scope es → (pc : ℕ) → Stands t.body pc (exprs_code w d ts es) → Goes us (exprs_code w d ts es) (onto (all_handed w ps es) us)
+        ToldArgs way w.tree w.scope es → (pc : ℕ) → Stands t.body pc (exprs_code w d ts es) → Goes us (exprs_code w d ts es) (onto (all_handed way w ps es) us)
     args_marked d [] [] no_expr us fine whole told pc st = nothing_done g t k _
     args_marked d (u ∷ ts) (p ∷ ps) (an_expr e es) us fine whole told pc st =
         let parts = told_arg w.tree w.scope way e es told in
         given_whole forms.keeps forms.takes w u p e (IsTyped forms w e) (IsIndexed forms w e)
-        (Goes us (exprs_code w d (u ∷ ts) (an_expr e es)) (onto (all_handed w (p ∷ ps) (an_expr e es)) us)) (asks_first _ _ _ whole)
+        (Goes us (exprs_code w d (u ∷ ts) (an_expr e es)) (onto (all_handed way w (p ∷ ps) (an_expr e es)) us)) (asks_first _ _ _ whole)
         (λ enters is. both g t k (expr_marked d e us is (whole_argument forms.keeps w p e (asks_first _ _ _ whole) enters.worth enters.other (part_untyped forms w e is)) parts.0 pc st.0)
         (both g t k (subst (λ y. Goes (shape_of (typed w e) ∷ us) (converted_code w (typed w e) u) (y ∷ us))
-        (enters.same ∙ sym (worth_handed w p e enters.worth))
+        (enters.same ∙ sym (worth_handed way w p e enters.worth))
         (converted_marked (typed w e) u us enters.goes enters.few))
-        (args_marked d ts ps es (handed w p e ∷ us) fine.1 (asks_second _ _ _ whole) parts.1 _ st.1.1)))
+        (args_marked d ts ps es (handed way w p e ∷ us) fine.1 (asks_second _ _ _ whole) parts.1 _ st.1.1)))
         (λ y takes h. both g t k (handed_marked g t k slots forms way w m asked y takes d u p e us h)
-        (both g t k (subst (λ q. Goes (handed w p e ∷ us) q (handed w p e ∷ us)) (sym (handed_unconverted w y u p e h)) (nothing_done g t k _))
-        (args_marked d ts ps es (handed w p e ∷ us) fine.1 (asks_second _ _ _ whole) parts.1 _ st.1.1)))
-        (λ keeps a. both g t k (part_passed d us p e (typed w e) a.name a.index a.is keeps a.cut a.regions (subst (IsIndexed forms w) a.is a.part).1
+        (both g t k (subst (λ q. Goes (handed way w p e ∷ us) q (handed way w p e ∷ us)) (sym (handed_unconverted w y u p e h)) (nothing_done g t k _))
+        (args_marked d ts ps es (handed way w p e ∷ us) fine.1 (asks_second _ _ _ whole) parts.1 _ st.1.1)))
+        (λ keeps a. both g t k (part_passed d us p e (typed w e) a.name a.index a.is keeps a.cut a.regions (subst (IsIndexed forms w) a.is a.part).0
+        (subst (IsIndexed forms w) a.is a.part).1
         (λ q s. index_marked d us e a.name a.index a.is (subst (IsIndexed forms w) a.is a.part).0
         (λ b. index_whole w a.name a.index (subst (λ y. (takes_part true w y || is_whole_expression true w y) ≡ true) a.is
         (part_asked w e a.name a.index a.is (and_parts _ _ (regions_asked (typed w e) p _ a.regions (asks_first _ _ _ whole b))).1)))
         (told_at w.tree w.scope way a.name a.index (subst (Told way w.tree w.scope) a.is parts.0)) q s) pc st.0)
-        (both g t k (subst (λ q. Goes (handed w p e ∷ us) q (handed w p e ∷ us)) (sym (ap (converted_code w (typed w e)) a.same ∙ same_code w (typed w e) p a.regions)) (nothing_done g t k _))
-        (args_marked d ts ps es (handed w p e ∷ us) fine.1 (asks_second _ _ _ whole) parts.1 _ st.1.1)))
+        (both g t k (subst (λ q. Goes (handed way w p e ∷ us) q (handed way w p e ∷ us)) (sym (ap (converted_code w (typed w e)) a.same ∙ same_code w (typed w e) p a.regions)) (nothing_done g t k _))
+        (args_marked d ts ps es (handed way w p e ∷ us) fine.1 (asks_second _ _ _ whole) parts.1 _ st.1.1)))
         (λ keeps a. both g t k (cut_passed d us p e a.name a.is keeps a.cut a.partition)
-        (both g t k (subst (λ q. Goes (handed w p e ∷ us) q (handed w p e ∷ us)) (sym (ap (converted_code w (typed w e)) a.same ∙ cut_unconverted w (typed w e) p a.partition))
+        (both g t k (subst (λ q. Goes (handed way w p e ∷ us) q (handed way w p e ∷ us)) (sym (ap (converted_code w (typed w e)) a.same ∙ cut_unconverted w (typed w e) p a.partition))
         (nothing_done g t k _))
-        (args_marked d ts ps es (handed w p e ∷ us) fine.1 (asks_second _ _ _ whole) parts.1 _ st.1.1))) fine.0
+        (args_marked d ts ps es (handed way w p e ∷ us) fine.1 (asks_second _ _ _ whole) parts.1 _ st.1.1))) fine.0
     args_marked d [] [] (an_expr e es) us fine whole told pc st = absurd fine
     args_marked d [] (p ∷ ps) es us fine whole told pc st = absurd fine
     args_marked d (u ∷ ts) [] es us fine whole told pc st = absurd fine

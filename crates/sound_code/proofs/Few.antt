@@ -27,7 +27,6 @@ use Rattle.code_laws.proofs.Wider.{any_field, begun, keepable}
 use Rattle.code_laws.specs.Steps.{Forms}
 use Rattle.code_laws.specs.Typed.{element_field, field_behind, IsLooped, AreTypedArms, BeginsAsPart, IsBegun, IsDifference, IsIndexed, IsKeepable, IsPointing, IsTyped, IsTypedBlock, IsTypedElse, IsTypedForm}
 use Rattle.fit_rules.specs.Shapes.{Each}
-use Rattle.sound_code.specs.FreeCalls.{are_free}
 use Rattle.sound_code.proofs.WholeTasks.{are_whole_arguments, are_whole_arms, are_whole_expressions, are_whole_links, is_value, is_whole_block, is_whole_domain, is_whole_else, is_whole_expression, is_whole_form, is_whole_program, is_whole_task, names_region, takes_part}
 use Rattle.sound_code.proofs.FewTypes.{value_few, written_few, said_few, owned_few, taken_few, counted_few, element_few, colours_few, minus_few}
 use Rattle.sound_code.proofs.Truths.{and_map, or_map, or_maps}
@@ -117,8 +116,7 @@ mutual
       (expr_few w few e (at_kept n e no_step k)) h
   expr_few w few (access_expr n (at_step e (field_step f rest))) k h = expr_few w few e (at_kept n e (field_step f rest) k) h
   expr_few w few (call_expr task args) k h =
-      and_map (are_whole_arguments false w (param_types w.tree (task_named w.tree task)) args) (are_free (task_named w.tree task) args) _ _
-      (args_few w few (param_types w.tree (task_named w.tree task)) args (few.tasks task) (kept_behind node (parts_of_expressions args) k)) (λ q. q) h
+      args_few w few (param_types w.tree (task_named w.tree task)) args (few.tasks task) (kept_behind node (parts_of_expressions args) k) h
   expr_few w few (convert_expr t e) k h = expr_few w few e (kept_behind node (parts_of_expression e) k) h
   expr_few w few (space_expr c e) k h = expr_few w few e (kept_behind node (parts_of_expression e) k) h
   expr_few w few (is_null_expr e) k h = expr_few w few e (kept_behind node (parts_of_expression e) k) h
@@ -229,8 +227,9 @@ module _ (forms : Forms) where
     form_few : (w : Where) → FewIn w → (form : Form) → AreKept (parts_of_form form) → IsTypedForm forms w form → is_whole_form false w form ≡ true →
         is_whole_form true w form ≡ true
     form_few w few (var_form n None (Some (plain_initializer e))) k f h = or_map (is_partition (typed w e)) _ _
+        (or_maps (takes_part false w e) _ (is_value false (owned w.scope.next (typed w e)) && is_whole_expression false w e) _ (part_few w few e k)
         (and_map (is_value false (owned w.scope.next (typed w e))) (is_whole_expression false w e) _ _
-        (value_few (owned w.scope.next (typed w e)) (var_few w few n None (Some (plain_initializer e)) k f)) (expr_few w few e k)) h
+        (value_few (owned w.scope.next (typed w e)) (var_few w few n None (Some (plain_initializer e)) k f)) (expr_few w few e k))) h
     form_few w few (var_form n (Some t) (Some (plain_initializer e))) k f h =
         let u = var_type w.tree w.scope (Some t) (Some (plain_initializer e)) in
         and_map (is_value false u) (is_whole_expression false w e) _ _ (value_few u (var_few w few n (Some t) (Some (plain_initializer e)) k f))
@@ -271,9 +270,7 @@ module _ (forms : Forms) where
     form_few w few (fill_form r fields e) k f h = expr_few w few e (kept_right (nodes fields) (parts_of_expression e) k) h
     form_few w few (assert_form e) k f h = expr_few w few e k h
     form_few w few (print_form alias format args) k f h = exprs_few w few args k h
-    form_few w few (call_form task args) k f h =
-        and_map (are_whole_arguments false w (param_types w.tree (task_named w.tree task)) args) (are_free (task_named w.tree task) args) _ _
-        (args_few w few (param_types w.tree (task_named w.tree task)) args (few.tasks task) k) (λ q. q) h
+    form_few w few (call_form task args) k f h = args_few w few (param_types w.tree (task_named w.tree task)) args (few.tasks task) k h
     form_few w few (assign_form n no_step o e) k f h = and_map (is_value false (bound w n).static_type) (is_whole_expression false w e) _ _
         (value_few (bound w n).static_type (few_bound w.scope.names n few.names)) (expr_few w few e k) h
     form_few w few (assign_form n (field_step l rest) o y) k f h = expr_few w few y (kept_right (parts_of_steps (field_step l rest)) (parts_of_expression y) k) h

@@ -22,6 +22,7 @@ use Rattle.sound_code.specs.Named.{AreNamed, HasSlots}
 use Rattle.regent_tree.specs.Accesses.{space_in}
 use Rattle.regent_tree.specs.StaticTypes.{field_place}
 use Rattle.regent_tree.specs.declared.rights.Access.TheVariants.{Write}
+use Rattle.sound_code.proofs.Plain.{plain_shape}
 use Rattle.sound_code.proofs.WholeTasks.{is_whole_expression}
 use Rattle.sound_code.specs.Ways.{Way, shape_of}
 use Rattle.sound_code.proofs.Granting.{allowed}
@@ -57,7 +58,7 @@ module _ (g : Program) (t : TaskCode) (k slots : ℕ) (have : HasSlots t slots) 
       let parts = may_fill_first way w.tree w.scope u f fs may field.field in
       let goes = filling forms.keeps from _ h.0 in
       both g t k (does g t k (stacked o []) (instr.Load (spare w 0)) w.line _
-      (does_load (spare w 0) (shape_of from) [] there (filled_settled from _ goes)))
+      (does_load (spare w 0) (shape_of from) [] there (filled_settled from _ goes) (plain_shape from)))
       (both g t k (becomes g t k w o from _ [] (filled_becomes from _ goes) (field_few _ _ _ field.keeps))
       (both g t k (fills g t k way w o asked.known u (slot_named w r) f _ [] is
       (λ us. allowed g t w.tree w.params w.scope o asked.params way asked.known asked.ground a.facts u (bound w r).place
@@ -67,20 +68,20 @@ module _ (g : Program) (t : TaskCode) (k slots : ℕ) (have : HasSlots t slots) 
 
   pub fill_marked : (r : Name) (fs : List Name) (e : Expression) → IsTyped forms w e → Asks forms.keeps (is_whole_expression true w e) → ToldForm way w.tree w.scope (fill_form r fs e) → is_bound w.scope.names r ≡ true →
       IsRegion (bound w r).static_type → AreFilled forms.keeps w r (typed w e) fs → (pc : ℕ) → Stands t.body pc (form_code w (fill_form r fs e)) →
-      Followed g t k forms.keeps way w.params w.scope.names m (form_code w (fill_form r fs e))
+      Followed g t k forms.keeps way w.tree w.params w.scope.names m (form_code w (fill_form r fs e))
   fill_marked r fs e f whole told b is h pc st =
       let ready = asked.ready in
       let s = spare w 0 in
       let hi : s < length m.slots = stored g t k slots have forms way w m asked _ s st.1.0 in
       let a = shape_of (typed w e) in
       let o = set_mark m s a [] in
-      unchanged g t k forms.keeps way _ _ m _ ready asked.scoped asked.cut
+      unchanged g t k forms.keeps way w.tree _ _ m _ ready asked.scoped asked.cut
       (both g t k (value_marked g t k slots have forms way w m asked e [] f whole (told_head w.tree w.scope way (fill_form r fs e) e refl told) pc st.0)
       (both g t k (storing g t k m s a a [] w.line (behind_kept way w.params w.scope.names m s ready (omega arith))
-      (omega (arith, slot_high w.params (length w.scope.names) ready.low, asked.params)) hi (λ x v q. q))
+      (omega (arith, slot_high w.params (length w.scope.names) ready.low, asked.params)) (omega (arith, ready.fixed)) (plain_shape (typed w e)) hi (λ x v q. q))
       (into g t k (fields_marked o r (typed w e) fs (record {
         named = named_behind way w.params m.slots w.scope.names s a ready.named (omega arith);
         facts = asked.facts;
       }) (get_set m.slots s a hi) b is h (may_fill way w r fs e is told))
-      (narrow_into t.params o m [] (narrow_set m.slots m.slots s a (narrow_itself m.slots) (inl (ready.free s (omega arith) hi))) (same_facts _ _ refl))
+      (narrow_into t.params o m (narrow_set m.slots m.slots s a (narrow_itself m.slots) (inl (ready.free s (omega arith) hi))) (same_facts _ _ refl))
       (sym (length-set m.slots s a)))))

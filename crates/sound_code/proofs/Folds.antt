@@ -61,10 +61,10 @@ module _ (g : Program) (t : TaskCode) (k : ℕ) (way : Way) (w : Where) (m : Mar
       (one w (instr.Wrap v) ⨟ one w (instr.Load s) ⨟ one w (computing o v) ⨟ one w (instr.Store s)) (stacked m [])
   computed_marked o a n = both g t k (wrap_marked a n)
       (both g t k (does g t k (stacked m (V ∷ [])) (instr.Load s) w.line (V ∷ V ∷ [])
-      (does_load s V (V ∷ []) there (settled_number V (numeric_integer v))))
+      (does_load s V (V ∷ []) there (settled_number V (numeric_integer v)) tt))
       (both g t k (does g t k (stacked m (V ∷ V ∷ [])) (computing o v) w.line (V ∷ [])
       (does_compute o v V V [] (numeric_integer v) (numeric_integer v)))
-      (keeping g t k m s V [] w.line kept (bare_number V (numeric_integer v)) hi there)))
+      (keeping g t k m s V w.line kept (bare_number V (numeric_integer v)) hi there)))
 
   -- the lesser or the greater of both, by a slot of its own
   module _ (low : spare w 0 < length m.slots) where
@@ -91,19 +91,19 @@ module _ (g : Program) (t : TaskCode) (k : ℕ) (way : Way) (w : Where) (m : Mar
     chosen_marked c a n =
         let settled = settled_number V (numeric_integer v) in
         let long : length aside.slots ≡ length m.slots = length-set m.slots u V in
-        let taken = both g t k (does g t k (stacked aside []) (instr.Load u) w.line (V ∷ []) (does_load u V [] aside_there settled))
-        (keeping g t k aside s V [] w.line kept (bare_number V (numeric_integer v)) (omega (arith, hi, long)) kept_there) in
+        let taken = both g t k (does g t k (stacked aside []) (instr.Load u) w.line (V ∷ []) (does_load u V [] aside_there settled tt))
+        (keeping g t k aside s V w.line kept (bare_number V (numeric_integer v)) (omega (arith, hi, long)) kept_there) in
         into g t k (both g t k (wrap_marked a n)
-        (both g t k (storing g t k m u V V [] w.line (behind_kept way w.params w.scope.names m u r (omega arith)) (omega (arith, slot_high w.params (length w.scope.names) r.low, ep)) low (λ x y h. h))
-        (both g t k (does g t k (stacked aside []) (instr.Load u) w.line (V ∷ []) (does_load u V [] aside_there settled))
-        (both g t k (does g t k (stacked aside (V ∷ [])) (instr.Load s) w.line (V ∷ V ∷ []) (does_load s V (V ∷ []) kept_there settled))
+        (both g t k (storing g t k m u V V [] w.line (behind_kept way w.params w.scope.names m u r (omega arith)) (omega (arith, slot_high w.params (length w.scope.names) r.low, ep)) (omega (arith, r.fixed)) tt low (λ x y h. h))
+        (both g t k (does g t k (stacked aside []) (instr.Load u) w.line (V ∷ []) (does_load u V [] aside_there settled tt))
+        (both g t k (does g t k (stacked aside (V ∷ [])) (instr.Load s) w.line (V ∷ V ∷ []) (does_load s V (V ∷ []) kept_there settled tt))
         (both g t k (does g t k (stacked aside (V ∷ V ∷ [])) (comparing c false) w.line (truth ∷ [])
         (does_compare c V V [] (numeric_integer v) (numeric_integer v)))
         (record {
           marks = _;
           is = typed_if (stacked aside (truth ∷ [])) truth [] w.line _ _ refl numeric_truth taken.is;
         }))))))
-        (narrow_into t.params aside m [] (narrow_set m.slots m.slots u V (narrow_itself m.slots) (inl (r.free u (omega arith) low))) (same_facts _ _ refl))
+        (narrow_into t.params aside m (narrow_set m.slots m.slots u V (narrow_itself m.slots) (inl (r.free u (omega arith) low))) (same_facts _ _ refl))
         (sym long)
 
 -- ---- into a variable

@@ -1,19 +1,14 @@
--- What is asked of a task holds of one that is typed, where no constraint speaks of two parts of one partition in its calls: each name that
--- is read has a value.
-use Rattle.std.proofs.Common.{◌≡◌, ⊎_elim, ℕ, zero, suc, List, [], ◌∷◌, true, false, ◌&&◌, ◌||◌, ◌∙◌, None, Option, Some, refl, sym, ap, subst}
+-- What is asked of a task holds of one that is typed, where each fill names a field: each name that is read has a value.
+use Rattle.std.proofs.Common.{◌≡◌, ⊎_elim, ℕ, zero, suc, List, [], ◌∷◌, true, false, ◌&&◌, ◌||◌, None, Some, refl, sym, ap, subst}
 use Rattle.std.specs.List.{list_all}
 use Rattle.std.specs.Prelude.{slice_get}
 use Rattle.std.proofs.lemmas.Bool.{and_parts, false≢true, or_left, or_right}
-use Rattle.std.proofs.lemmas.Option.{none-some}
 use Rattle.regent_tree.specs.Execution.{before_last}
 use Rattle.regent_tree.specs.StaticTypes.{task_named}
 use Rattle.regent_tree.specs.Syntax.{a_link, a_statement, access_expr, an_arm, an_expr, Arms, assert_form, assign_form, at_step, Block, both_initializer, by_field_initializer, call_expr, call_form, cast_expr, chain_expr, convert_expr, do_form, either_initializer, else_block, equal_initializer, Expression, Expressions, field_step, fill_form, for_in_form, for_to_form, Form, if_form, image_initializer, is_null_expr, Links, Name, no_arm, no_else, no_expr, no_link, no_statement, no_step, null_expr, number_expr, Otherwise, plain_initializer, prefix_expr, preimage_initializer, print_form, region_initializer, return_form, space_expr, Steps, TaskTree, then_statement, Tree, truth_expr, var_form, while_form}
-use Rattle.regent_tree.specs.Typing.{arithmetic_type, operated, owned, param_types, parent_of, taken_from, var_type}
+use Rattle.regent_tree.specs.Typing.{arithmetic_type, operated, owned, param_types, taken_from, var_type}
 use Rattle.regent_tree.specs.declared.expression.Arithmetic.TheVariants.{Subtract}
 use Rattle.regent_tree.specs.declared.expression.Operator.TheVariants.{And, Compare, Compute, Or}
-use Rattle.regent_tree.specs.declared.facts.Known.{Known}
-use Rattle.regent_tree.specs.declared.facts.Known.TheVariants.{Apart, Made, PartOf, Within}
-use Rattle.regent_tree.specs.declared.facts.Term.TheVariants as term
 use Rattle.regent_tree.specs.declared.statement.How.TheVariants as how
 use Rattle.regent_tree.specs.declared.typing.StaticType.{StaticType}
 use Rattle.check_rules.specs.types.Sorts.{is_partition, is_region}
@@ -24,14 +19,11 @@ use Rattle.code_rules.specs.Statements.{after_arm, after_arms, after_form, loopi
 use Rattle.local_form.specs.LocalForm.{are_fields}
 use Rattle.code_laws.specs.Pointers.{IsCounting}
 use Rattle.code_laws.specs.Simple.{a_partition_type, IsPartition}
-use Rattle.code_laws.specs.Above.{cut_told, first_told, whole_of}
-use Rattle.code_laws.specs.Handing.{taking_of, told_in}
-use Rattle.code_laws.specs.Steps.{Forms, Taking}
-use Rattle.code_laws.specs.Taking.{BeginsWithin}
+use Rattle.code_laws.specs.Steps.{Forms}
 use Rattle.code_laws.specs.Typed.{BeginsAsPart, AreFilled, AreNumbers, ArePassed, AreTypedArms, AreTypedLinks, IsBegun, IsDifference, IsIndexed, IsKeepable, IsLooped, IsNamedRegion, IsPassed, IsTyped, IsTypedBlock, IsTypedElse, IsTypedForm, LoopsOver, LoopsOverPart}
 use Rattle.code_laws.proofs.Arguments.{given_by, handed_name, IsCutArgument, IsPartArgument}
 use Rattle.code_laws.proofs.Wider.{assigned, beginning, begun, compared, counting, filling, loops_over, looped_over, passing, signed_as, zeroed}
-use Rattle.sound_code.specs.FreeCalls.{is_free_task, tells_no_part, are_free, are_free_arms, are_free_expressions, are_free_links, are_free_steps, has_any, is_free_block, is_free_else, is_free_expression, is_free_form, is_free_program}
+use Rattle.sound_code.specs.FreeCalls.{are_free_arms, has_any, is_free_block, is_free_else, is_free_form, is_free_program, is_free_task}
 use Rattle.sound_code.proofs.WholeTasks.{are_whole_arguments, are_whole_arms, are_whole_expressions, are_whole_links, is_value, is_whole_block, is_whole_domain, is_whole_else, is_whole_expression, is_whole_form, is_whole_program, is_whole_task, names_region, takes_part}
 use Rattle.sound_code.proofs.Truths.{both_true}
 use Rattle.sound_code.proofs.Values.{IsValue, integer_value, truth_value, space_value, pointer_value, counting_value, kept_value, alike_values, passed_values, assigned_values, begins_values, itself_value, filled_value, compared_values, signed_value, region_sort, regions_sort, partition_sort}
@@ -39,7 +31,7 @@ use Rattle.sound_code.proofs.Wholes.{kept_of, owned_same}
 
 -- ---- expressions
 
-module _ (forms : Forms) (keeps : forms.keeps ≡ true) (whole : (own r : ℕ) → BeginsWithin forms.takes own r → ⊥) where
+module _ (forms : Forms) (keeps : forms.keeps ≡ true) where
   -- what is given for a parameter
   given_whole : (w : Where) (t p : StaticType) (e : Expression) →
       (IsTyped forms w e → is_value false (typed w e) ≡ true → is_whole_expression false w e ≡ true) →
@@ -79,94 +71,79 @@ module _ (forms : Forms) (keeps : forms.keeps ≡ true) (whole : (own r : ℕ) �
   index_in e = e
 
   mutual
-    expr_whole : (w : Where) (e : Expression) → IsTyped forms w e → IsValue (typed w e) → is_free_expression w.tree e ≡ true → is_whole_expression false w e ≡ true
-    expr_whole w (number_expr z v) f v0 h = refl
-    expr_whole w (truth_expr b) f v h = refl
-    expr_whole w (chain_expr first no_link) f v h = both_true (is_whole_expression false w first) true (expr_whole w first f.0 v (and_parts (is_free_expression w.tree first) true h).0) refl
-    expr_whole w (chain_expr first (a_link o e rest)) f v h =
-        let parts = and_parts (is_free_expression w.tree first) (are_free_links w.tree (a_link o e rest)) h in
+    expr_whole : (w : Where) (e : Expression) → IsTyped forms w e → IsValue (typed w e) → is_whole_expression false w e ≡ true
+    expr_whole w (number_expr z v) f v0 = refl
+    expr_whole w (truth_expr b) f v = refl
+    expr_whole w (chain_expr first no_link) f v = both_true (is_whole_expression false w first) true (expr_whole w first f.0 v) refl
+    expr_whole w (chain_expr first (a_link o e rest)) f v =
         both_true (is_whole_expression false w first) (are_whole_links false w (a_link o e rest))
-        (expr_whole w first f.0 (first_value w (typed w first) (a_link o e rest) (λ q. absurd cc) f.1) parts.0) (links_whole w (typed w first) (a_link o e rest) f.1 parts.1)
-    expr_whole w (prefix_expr signs e) f v h = expr_whole w e f.0 (signed_value (typed w e) signs (signed_as forms.keeps _ signs f.1)) h
-    expr_whole w (access_expr n no_step) f v h = v
-    expr_whole w (access_expr n (field_step l rest)) f v h = refl
-    expr_whole w (access_expr n (at_step e no_step)) f v h = both_true (is_region (bound w n).static_type) (is_whole_expression false w e) (region_sort _ f.4)
-        (expr_whole w e f.1 (counting_value _ f.2) (and_parts (is_free_expression w.tree e) true h).0)
-    expr_whole w (access_expr n (at_step e (field_step l no_step))) f v h =
-        expr_whole w e f.0 (counting_value _ (counting forms.keeps _ f.1)) (and_parts (is_free_expression w.tree e) true h).0
-    expr_whole w (access_expr n (at_step e (field_step l (field_step k rest)))) f v h =
-        expr_whole w e f.1 (counting_value _ (counting forms.keeps _ f.2)) (and_parts (is_free_expression w.tree e) _ h).0
-    expr_whole w (call_expr task args) f v h =
-        let parts = and_parts (are_free_expressions w.tree args) (are_free (task_named w.tree task) args) h in
-        both_true (are_whole_arguments false w (param_types w.tree (task_named w.tree task)) args) (are_free (task_named w.tree task) args)
-        (args_whole w _ (param_types w.tree (task_named w.tree task)) args f.3 parts.0) parts.1
-    expr_whole w (convert_expr t e) f v h = expr_whole w e f.0 (counting_value _ (counting forms.keeps _ f.1)) h
-    expr_whole w (space_expr k e) f v h = expr_whole w e f.0 (integer_value _ f.1) h
-    expr_whole w (is_null_expr e) f v h = expr_whole w e f.2 (pointer_value _ f.1) h
-    expr_whole w (null_expr t) f v h = refl
-    expr_whole w (cast_expr t e) f v h = both_true (is_value false (typed w (cast_expr t e))) (is_whole_expression false w e) (pointer_value _ f.1.0)
-        (expr_whole w e f.3 (counting_value _ f.2) h)
-    expr_whole w _ f v h = absurd f
+        (expr_whole w first f.0 (first_value w (typed w first) (a_link o e rest) (λ q. absurd cc) f.1)) (links_whole w (typed w first) (a_link o e rest) f.1)
+    expr_whole w (prefix_expr signs e) f v = expr_whole w e f.0 (signed_value (typed w e) signs (signed_as forms.keeps _ signs f.1))
+    expr_whole w (access_expr n no_step) f v = v
+    expr_whole w (access_expr n (field_step l rest)) f v = refl
+    expr_whole w (access_expr n (at_step e no_step)) f v = both_true (is_region (bound w n).static_type) (is_whole_expression false w e) (region_sort _ f.4)
+        (expr_whole w e f.1 (counting_value _ f.2))
+    expr_whole w (access_expr n (at_step e (field_step l no_step))) f v = expr_whole w e f.0 (counting_value _ (counting forms.keeps _ f.1))
+    expr_whole w (access_expr n (at_step e (field_step l (field_step k rest)))) f v = expr_whole w e f.1 (counting_value _ (counting forms.keeps _ f.2))
+    expr_whole w (call_expr task args) f v = args_whole w _ (param_types w.tree (task_named w.tree task)) args f.3
+    expr_whole w (convert_expr t e) f v = expr_whole w e f.0 (counting_value _ (counting forms.keeps _ f.1))
+    expr_whole w (space_expr k e) f v = expr_whole w e f.0 (integer_value _ f.1)
+    expr_whole w (is_null_expr e) f v = expr_whole w e f.2 (pointer_value _ f.1)
+    expr_whole w (null_expr t) f v = refl
+    expr_whole w (cast_expr t e) f v = both_true (is_value false (typed w (cast_expr t e))) (is_whole_expression false w e) (pointer_value _ f.1.0)
+        (expr_whole w e f.3 (counting_value _ f.2))
+    expr_whole w _ f v = absurd f
 
-    links_whole : (w : Where) (t : StaticType) (ls : Links) → AreTypedLinks forms w t ls → are_free_links w.tree ls ≡ true → are_whole_links false w ls ≡ true
-    links_whole w t no_link f h = refl
-    links_whole w t (a_link Or e rest) f h =
-        let parts = and_parts (is_free_expression w.tree e) (are_free_links w.tree rest) h in
-        both_true (is_whole_expression false w e) _ (expr_whole w e f.2 (truth_value _ f.1) parts.0) (links_whole w _ rest f.3 parts.1)
-    links_whole w t (a_link And e rest) f h =
-        let parts = and_parts (is_free_expression w.tree e) (are_free_links w.tree rest) h in
-        both_true (is_whole_expression false w e) _ (expr_whole w e f.2 (truth_value _ f.1) parts.0) (links_whole w _ rest f.3 parts.1)
-    links_whole w t (a_link (Compare c) e rest) f h =
-        let parts = and_parts (is_free_expression w.tree e) (are_free_links w.tree rest) h in
-        both_true (is_whole_expression false w e) _ (expr_whole w e f.1 (compared_values c t (typed w e) (compared forms.keeps c t (typed w e) f.0)).1 parts.0)
-        (links_whole w _ rest f.2 parts.1)
-    links_whole w t (a_link (Compute c) e rest) f h =
-        let parts = and_parts (is_free_expression w.tree e) (are_free_links w.tree rest) h in
-        both_true (is_whole_expression false w e) _ (expr_whole w e f.2 (counting_value _ (counting forms.keeps _ f.1)) parts.0) (links_whole w _ rest f.3 parts.1)
+    links_whole : (w : Where) (t : StaticType) (ls : Links) → AreTypedLinks forms w t ls → are_whole_links false w ls ≡ true
+    links_whole w t no_link f = refl
+    links_whole w t (a_link Or e rest) f =
+        both_true (is_whole_expression false w e) _ (expr_whole w e f.2 (truth_value _ f.1)) (links_whole w _ rest f.3)
+    links_whole w t (a_link And e rest) f =
+        both_true (is_whole_expression false w e) _ (expr_whole w e f.2 (truth_value _ f.1)) (links_whole w _ rest f.3)
+    links_whole w t (a_link (Compare c) e rest) f =
+        both_true (is_whole_expression false w e) _ (expr_whole w e f.1 (compared_values c t (typed w e) (compared forms.keeps c t (typed w e) f.0)).1)
+        (links_whole w _ rest f.2)
+    links_whole w t (a_link (Compute c) e rest) f =
+        both_true (is_whole_expression false w e) _ (expr_whole w e f.2 (counting_value _ (counting forms.keeps _ f.1))) (links_whole w _ rest f.3)
 
     index_whole : (w : Where) (e : Expression) (n : Name) (i : Expression) → e ≡ access_expr n (at_step i no_step) → IsIndexed forms w e →
-        is_free_expression w.tree e ≡ true → is_whole_expression false w i ≡ true
-    index_whole w (access_expr m (at_step j no_step)) n i same f h =
-        subst (λ y. is_whole_expression false w y ≡ true) (ap index_in same)
-        (expr_whole w j f.0 (counting_value _ f.1) (and_parts (is_free_expression w.tree j) true h).0)
-    index_whole w _ n i same f h = absurd f
+        is_whole_expression false w i ≡ true
+    index_whole w (access_expr m (at_step j no_step)) n i same f =
+        subst (λ y. is_whole_expression false w y ≡ true) (ap index_in same) (expr_whole w j f.0 (counting_value _ f.1))
+    index_whole w _ n i same f = absurd f
 
-    args_whole : (w : Where) (ts ps : List StaticType) (es : Expressions) → ArePassed forms w ts ps es → are_free_expressions w.tree es ≡ true →
-        are_whole_arguments false w ps es ≡ true
-    args_whole w [] [] no_expr f h = refl
-    args_whole w (t ∷ ts) (p ∷ ps) (an_expr e es) f h =
-        let parts = and_parts (is_free_expression w.tree e) (are_free_expressions w.tree es) h in
+    args_whole : (w : Where) (ts ps : List StaticType) (es : Expressions) → ArePassed forms w ts ps es → are_whole_arguments false w ps es ≡ true
+    args_whole w [] [] no_expr f = refl
+    args_whole w (t ∷ ts) (p ∷ ps) (an_expr e es) f =
         both_true (is_partition p || ((is_region p || is_value false p) && (names_region w e || (takes_part false w e || is_whole_expression false w e)))) _
-        (given_whole w t p e (λ i v. expr_whole w e i v parts.0) (λ n i same part. index_whole w e n i same part parts.0) f.0)
-        (args_whole w ts ps es f.1 parts.1)
-    args_whole w [] [] (an_expr e es) f h = absurd f
-    args_whole w [] (p ∷ ps) es f h = absurd f
-    args_whole w (t ∷ ts) [] es f h = absurd f
-    args_whole w (t ∷ ts) (p ∷ ps) no_expr f h = absurd f
+        (given_whole w t p e (expr_whole w e) (index_whole w e) f.0) (args_whole w ts ps es f.1)
+    args_whole w [] [] (an_expr e es) f = absurd f
+    args_whole w [] (p ∷ ps) es f = absurd f
+    args_whole w (t ∷ ts) [] es f = absurd f
+    args_whole w (t ∷ ts) (p ∷ ps) no_expr f = absurd f
 
-  numbers_whole : (w : Where) (es : Expressions) → AreNumbers forms w es → are_free_expressions w.tree es ≡ true → are_whole_expressions false w es ≡ true
-  numbers_whole w no_expr f h = refl
-  numbers_whole w (an_expr e es) f h =
-      let parts = and_parts (is_free_expression w.tree e) (are_free_expressions w.tree es) h in
-      both_true (is_whole_expression false w e) _ (expr_whole w e f.1 (integer_value _ f.0) parts.0) (numbers_whole w es f.2 parts.1)
+  numbers_whole : (w : Where) (es : Expressions) → AreNumbers forms w es → are_whole_expressions false w es ≡ true
+  numbers_whole w no_expr f = refl
+  numbers_whole w (an_expr e es) f =
+      both_true (is_whole_expression false w e) _ (expr_whole w e f.1 (integer_value _ f.0)) (numbers_whole w es f.2)
 
   -- over what a loop goes
   named_sort : (w : Where) (e : Expression) → IsNamedRegion w e → names_region w e ≡ true
   named_sort w (access_expr n no_step) r = region_sort _ r.0
   named_sort w _ r = absurd r
 
-  part_whole : (w : Where) (e : Expression) → LoopsOverPart w e (IsIndexed forms w e) → is_free_expression w.tree e ≡ true → takes_part false w e ≡ true
-  part_whole w (access_expr n (at_step i no_step)) p h =
-      both_true (is_partition (bound w n).static_type) (is_whole_expression false w i) (partition_sort _ p.0.partition) (index_whole w (access_expr n (at_step i no_step)) n i refl p.3 h)
-  part_whole w _ p h = absurd p
+  part_whole : (w : Where) (e : Expression) → LoopsOverPart w e (IsIndexed forms w e) → takes_part false w e ≡ true
+  part_whole w (access_expr n (at_step i no_step)) p =
+      both_true (is_partition (bound w n).static_type) (is_whole_expression false w i) (partition_sort _ p.0.partition) (index_whole w (access_expr n (at_step i no_step)) n i refl p.3)
+  part_whole w _ p = absurd p
 
   domain_whole : (w : Where) (e : Expression) (Body : Type 0) → IsLooped forms.keeps w e (IsTyped forms w e) (IsIndexed forms w e) Body →
-      is_free_expression w.tree e ≡ true → is_whole_domain false w e ≡ true
-  domain_whole w e Body f h = ⊎_elim
+      is_whole_domain false w e ≡ true
+  domain_whole w e Body f = ⊎_elim
       (λ (l : LoopsOver forms.keeps w e × IsTyped forms w e × Body). ⊎_elim
-      (λ s. or_right (names_region w e) _ (or_right (takes_part false w e) (is_whole_expression false w e) (expr_whole w e l.1 (space_value _ s) h)))
+      (λ s. or_right (names_region w e) _ (or_right (takes_part false w e) (is_whole_expression false w e) (expr_whole w e l.1 (space_value _ s))))
       (λ r. or_left (names_region w e) _ (named_sort w e r)) (loops_over forms.keeps w e l.0))
-      (λ (p : LoopsOverPart w e (IsIndexed forms w e) × Body). or_right (names_region w e) _ (or_left (takes_part false w e) _ (part_whole w e p.0 h)))
+      (λ (p : LoopsOverPart w e (IsIndexed forms w e) × Body). or_right (names_region w e) _ (or_left (takes_part false w e) _ (part_whole w e p.0)))
       (looped_over forms.keeps w e (IsTyped forms w e) (IsIndexed forms w e) Body f)
 
   looped_body : (w : Where) (e : Expression) (Body : Type 0) → IsLooped forms.keeps w e (IsTyped forms w e) (IsIndexed forms w e) Body → Body
@@ -183,20 +160,20 @@ module _ (forms : Forms) (keeps : forms.keeps ≡ true) (whole : (own r : ℕ) �
       minus_sort (bound w p).static_type (bound w q).static_type d.first.partition
   difference_sort w _ d = absurd d
 
-  -- no variable begins as a part
-  begins_whole : (w : Where) (e : Expression) (Part : Type 0) → BeginsAsPart forms.takes w e Part → ⊥
-  begins_whole w (access_expr n (at_step e no_step)) Part b = whole w.scope.next (parent_of (bound w n).static_type) b.2
-  begins_whole w _ Part b = b
+  -- a variable that begins as a part
+  begins_whole : (w : Where) (e : Expression) → BeginsAsPart forms.takes w e (IsIndexed forms w e) → takes_part false w e ≡ true
+  begins_whole w (access_expr n (at_step e no_step)) b = part_whole w (access_expr n (at_step e no_step)) b.0
+  begins_whole w _ b = absurd b
 
   begun_whole : (w : Where) (e : Expression) → IsBegun forms.keeps w e (IsKeepable forms.keeps w e × IsTyped forms w e) (BeginsAsPart forms.takes w e (IsIndexed forms w e)) →
-      is_free_expression w.tree e ≡ true →
-      (is_partition (typed w e) || (is_value false (owned w.scope.next (typed w e)) && is_whole_expression false w e)) ≡ true
-  begun_whole w e f h = ⊎_elim
+      (is_partition (typed w e) || (takes_part false w e || (is_value false (owned w.scope.next (typed w e)) && is_whole_expression false w e))) ≡ true
+  begun_whole w e f = ⊎_elim
       (λ (b : IsKeepable forms.keeps w e × IsTyped forms w e).
       let is = kept_of forms.keeps w e b.0 in
-      or_right (is_partition (typed w e)) _ (both_true (is_value false (owned w.scope.next (typed w e))) (is_whole_expression false w e)
-      (subst IsValue (sym (owned_same w.scope.next (typed w e) is)) (kept_value (typed w e) is)) (expr_whole w e b.1 (kept_value (typed w e) is) h)))
-      (⊎_elim (λ d. or_left (is_partition (typed w e)) _ (difference_sort w e d)) (λ b. absurd (begins_whole w e (IsIndexed forms w e) b)))
+      or_right (is_partition (typed w e)) _ (or_right (takes_part false w e) _ (both_true (is_value false (owned w.scope.next (typed w e))) (is_whole_expression false w e)
+      (subst IsValue (sym (owned_same w.scope.next (typed w e) is)) (kept_value (typed w e) is)) (expr_whole w e b.1 (kept_value (typed w e) is)))))
+      (⊎_elim (λ d. or_left (is_partition (typed w e)) _ (difference_sort w e d))
+      (λ b. or_right (is_partition (typed w e)) _ (or_left (takes_part false w e) _ (begins_whole w e b))))
       (begun forms.keeps w e (IsKeepable forms.keeps w e × IsTyped forms w e) (BeginsAsPart forms.takes w e (IsIndexed forms w e)) f)
 
   -- the point of an access whose last field is one of what the fields before it go to
@@ -211,142 +188,109 @@ module _ (forms : Forms) (keeps : forms.keeps ≡ true) (whole : (own r : ℕ) �
   filled_whole w r (l ∷ fields) e some f = filled_value (typed w e) _ (filling forms.keeps (typed w e) _ f.0)
 
   mutual
-    form_whole : (w : Where) (form : Form) → IsTypedForm forms w form → is_free_form w.tree form ≡ true → is_whole_form false w form ≡ true
-    form_whole w (var_form n None (Some (plain_initializer e))) f h = begun_whole w e f h
+    form_whole : (w : Where) (form : Form) → IsTypedForm forms w form → is_free_form form ≡ true → is_whole_form false w form ≡ true
+    form_whole w (var_form n None (Some (plain_initializer e))) f h = begun_whole w e f
     form_whole w (var_form n (Some t) (Some (plain_initializer e))) f h =
         let u = var_type w.tree w.scope (Some t) (Some (plain_initializer e)) in
         let both = begins_values w.scope.names (typed w e) u (beginning forms.keeps w.scope.names (typed w e) u f.0) in
-        both_true (is_value false u) (is_whole_expression false w e) both.1 (expr_whole w e f.1 both.0 h)
-    form_whole w (var_form n None (Some (region_initializer e u))) f h = expr_whole w e f.2 (space_value _ f.1) h
-    form_whole w (var_form n None (Some (equal_initializer r e))) f h = expr_whole w e f.2 (space_value _ f.1) h
-    form_whole w (var_form n None (Some (by_field_initializer r l e))) f h = expr_whole w e f.2 (space_value _ f.1) h
+        both_true (is_value false u) (is_whole_expression false w e) both.1 (expr_whole w e f.1 both.0)
+    form_whole w (var_form n None (Some (region_initializer e u))) f h = expr_whole w e f.2 (space_value _ f.1)
+    form_whole w (var_form n None (Some (equal_initializer r e))) f h = expr_whole w e f.2 (space_value _ f.1)
+    form_whole w (var_form n None (Some (by_field_initializer r l e))) f h = expr_whole w e f.2 (space_value _ f.1)
     form_whole w (var_form n None (Some (image_initializer s p r l))) f h = refl
     form_whole w (var_form n None (Some (preimage_initializer s p r l))) f h = refl
     form_whole w (var_form n None (Some (both_initializer p q))) f h = refl
     form_whole w (var_form n None (Some (either_initializer p q))) f h = refl
     form_whole w (var_form n (Some t) None) f h = itself_value w.scope.names _ (zeroed forms.keeps w.scope.names _ f)
-    form_whole w (var_form n (Some t) (Some (region_initializer e u))) f h = expr_whole w e f.2.2 (space_value _ f.2.1) h
-    form_whole w (var_form n (Some t) (Some (equal_initializer r e))) f h = expr_whole w e f.2.2 (space_value _ f.2.1) h
-    form_whole w (var_form n (Some t) (Some (by_field_initializer r l e))) f h = expr_whole w e f.2.2 (space_value _ f.2.1) h
+    form_whole w (var_form n (Some t) (Some (region_initializer e u))) f h = expr_whole w e f.2.2 (space_value _ f.2.1)
+    form_whole w (var_form n (Some t) (Some (equal_initializer r e))) f h = expr_whole w e f.2.2 (space_value _ f.2.1)
+    form_whole w (var_form n (Some t) (Some (by_field_initializer r l e))) f h = expr_whole w e f.2.2 (space_value _ f.2.1)
     form_whole w (var_form n (Some t) (Some (image_initializer s p r l))) f h = refl
     form_whole w (var_form n (Some t) (Some (preimage_initializer s p r l))) f h = refl
     form_whole w (var_form n (Some t) (Some (both_initializer p q))) f h = refl
     form_whole w (var_form n (Some t) (Some (either_initializer p q))) f h = refl
     form_whole w (if_form arms other) f h =
-        let parts = and_parts (are_free_arms w.tree arms) (is_free_else w.tree other) h in
-        both_true (are_whole_arms false w w arms) (is_whole_else false (after_arms w arms) other) (arms_whole w w refl arms f.0 parts.0)
+        let parts = and_parts (are_free_arms arms) (is_free_else other) h in
+        both_true (are_whole_arms false w w arms) (is_whole_else false (after_arms w arms) other) (arms_whole w w arms f.0 parts.0)
         (else_whole (after_arms w arms) other f.1 parts.1)
     form_whole w (while_form test body) f h =
-        let parts = and_parts (is_free_expression w.tree test) (is_free_block w.tree body) h in
-        both_true (is_whole_expression false w test) (is_whole_block false w body) (expr_whole w test f.1 (truth_value _ f.0) parts.0) (block_whole w body f.2 parts.1)
+        both_true (is_whole_expression false w test) (is_whole_block false w body) (expr_whole w test f.1 (truth_value _ f.0)) (block_whole w body f.2 h)
     form_whole w (for_in_form d n domain body) f h =
-        let parts = and_parts (is_free_expression w.tree domain) (is_free_block w.tree body) h in
-        both_true (is_whole_domain false w domain) (is_whole_block false (looping w n (taken_from (typed w domain))) body) (domain_whole w domain _ f parts.0)
-        (block_whole (looping w n (taken_from (typed w domain))) body (looped_body w domain _ f) parts.1)
+        both_true (is_whole_domain false w domain) (is_whole_block false (looping w n (taken_from (typed w domain))) body) (domain_whole w domain _ f)
+        (block_whole (looping w n (taken_from (typed w domain))) body (looped_body w domain _ f) h)
     form_whole w (for_to_form d n from to body) f h =
-        let first = and_parts (is_free_expression w.tree from) (is_free_expression w.tree to && is_free_block w.tree body) h in
-        let rest = and_parts (is_free_expression w.tree to) (is_free_block w.tree body) first.1 in
         let lw = looping w n (arithmetic_type (typed w from) (typed w to)) in
-        both_true (is_whole_expression false w from) (is_whole_expression false w to && is_whole_block false lw body) (expr_whole w from f.2 (integer_value _ f.0) first.0)
-        (both_true (is_whole_expression false w to) (is_whole_block false lw body) (expr_whole w to f.3 (integer_value _ f.1) rest.0) (block_whole lw body f.4 rest.1))
+        both_true (is_whole_expression false w from) (is_whole_expression false w to && is_whole_block false lw body) (expr_whole w from f.2 (integer_value _ f.0))
+        (both_true (is_whole_expression false w to) (is_whole_block false lw body) (expr_whole w to f.3 (integer_value _ f.1)) (block_whole lw body f.4 h))
     form_whole w (do_form body) f h = block_whole w body f h
-    form_whole w (fill_form r fields e) f h =
-        let parts = and_parts (has_any fields) (is_free_expression w.tree e) h in expr_whole w e f.0 (filled_whole w r fields e parts.0 f.3) parts.1
-    form_whole w (assert_form e) f h = expr_whole w e f.1 (truth_value _ f.0) h
-    form_whole w (print_form alias format args) f h = numbers_whole w args f.0 h
-    form_whole w (call_form task args) f h =
-        let parts = and_parts (are_free_expressions w.tree args) (are_free (task_named w.tree task) args) h in
-        both_true (are_whole_arguments false w (param_types w.tree (task_named w.tree task)) args) (are_free (task_named w.tree task) args)
-        (args_whole w _ (param_types w.tree (task_named w.tree task)) args f.2 parts.0) parts.1
+    form_whole w (fill_form r fields e) f h = expr_whole w e f.0 (filled_whole w r fields e h f.3)
+    form_whole w (assert_form e) f h = expr_whole w e f.1 (truth_value _ f.0)
+    form_whole w (print_form alias format args) f h = numbers_whole w args f.0
+    form_whole w (call_form task args) f h = args_whole w _ (param_types w.tree (task_named w.tree task)) args f.2
     form_whole w (assign_form n no_step how.Set e) f h =
         let both = assigned_values (typed w e) (bound w n).static_type (assigned forms.keeps _ _ f.0) in
-        both_true (is_value false (bound w n).static_type) (is_whole_expression false w e) both.1 (expr_whole w e f.1 both.0 h)
+        both_true (is_value false (bound w n).static_type) (is_whole_expression false w e) both.1 (expr_whole w e f.1 both.0)
     form_whole w (assign_form n no_step (how.Reduce o) e) f h =
-        both_true (is_value false (bound w n).static_type) (is_whole_expression false w e) (integer_value _ f.1) (expr_whole w e f.2 (integer_value _ f.0) h)
-    form_whole w (assign_form n (field_step l no_step) how.Set y) f h = expr_whole w y f.2 (assigned_values _ _ f.1).0 h
-    form_whole w (assign_form n (field_step l no_step) (how.Reduce o) y) f h = expr_whole w y f.3 (integer_value _ f.1) h
+        both_true (is_value false (bound w n).static_type) (is_whole_expression false w e) (integer_value _ f.1) (expr_whole w e f.2 (integer_value _ f.0))
+    form_whole w (assign_form n (field_step l no_step) how.Set y) f h = expr_whole w y f.2 (assigned_values _ _ f.1).0
+    form_whole w (assign_form n (field_step l no_step) (how.Reduce o) y) f h = expr_whole w y f.3 (integer_value _ f.1)
     form_whole w (assign_form n (field_step l (field_step k rest)) how.Set y) f h =
-        expr_whole w y f.2 (assigned_values _ _ f.1).0 (and_parts (are_free_steps w.tree rest) (is_free_expression w.tree y) h).1
+        expr_whole w y f.2 (assigned_values _ _ f.1).0
     form_whole w (assign_form n (field_step l (field_step k rest)) (how.Reduce o) y) f h =
-        expr_whole w y f.3 (integer_value _ f.1) (and_parts (are_free_steps w.tree rest) (is_free_expression w.tree y) h).1
+        expr_whole w y f.3 (integer_value _ f.1)
     form_whole w (assign_form n (at_step e (field_step l no_step)) how.Set y) f h =
-        let parts = and_parts (is_free_expression w.tree e && true) (is_free_expression w.tree y) h in
         both_true (is_whole_expression false w e) (is_whole_expression false w y)
-        (expr_whole w e f.2 (counting_value _ (counting forms.keeps _ f.3)) (and_parts (is_free_expression w.tree e) true parts.0).0)
-        (expr_whole w y f.1 (assigned_values _ _ (assigned forms.keeps _ _ f.0)).0 parts.1)
+        (expr_whole w e f.2 (counting_value _ (counting forms.keeps _ f.3)))
+        (expr_whole w y f.1 (assigned_values _ _ (assigned forms.keeps _ _ f.0)).0)
     form_whole w (assign_form n (at_step e (field_step l no_step)) (how.Reduce o) y) f h =
-        let parts = and_parts (is_free_expression w.tree e && true) (is_free_expression w.tree y) h in
         both_true (is_whole_expression false w e) (is_whole_expression false w y)
-        (expr_whole w e f.3 (counting_value _ (counting forms.keeps _ f.4)) (and_parts (is_free_expression w.tree e) true parts.0).0)
-        (expr_whole w y f.2 (integer_value _ f.0) parts.1)
+        (expr_whole w e f.3 (counting_value _ (counting forms.keeps _ f.4)))
+        (expr_whole w y f.2 (integer_value _ f.0))
     form_whole w (assign_form n (at_step e (field_step l (field_step k rest))) how.Set y) f h =
-        let parts = and_parts (is_free_expression w.tree e && are_free_steps w.tree rest) (is_free_expression w.tree y) h in
         let point = point_typed w n e l k rest f.3.0 f.3.1 in
         both_true (is_whole_expression false w e) (is_whole_expression false w y)
-        (expr_whole w e point.0 (counting_value _ point.1) (and_parts (is_free_expression w.tree e) (are_free_steps w.tree rest) parts.0).0)
-        (expr_whole w y f.2 (assigned_values _ _ f.1).0 parts.1)
+        (expr_whole w e point.0 (counting_value _ point.1))
+        (expr_whole w y f.2 (assigned_values _ _ f.1).0)
     form_whole w (assign_form n (at_step e (field_step l (field_step k rest))) (how.Reduce o) y) f h =
-        let parts = and_parts (is_free_expression w.tree e && are_free_steps w.tree rest) (is_free_expression w.tree y) h in
         let point = point_typed w n e l k rest f.4.0 f.4.1 in
         both_true (is_whole_expression false w e) (is_whole_expression false w y)
-        (expr_whole w e point.0 (counting_value _ point.1) (and_parts (is_free_expression w.tree e) (are_free_steps w.tree rest) parts.0).0)
-        (expr_whole w y f.3 (integer_value _ f.1) parts.1)
+        (expr_whole w e point.0 (counting_value _ point.1))
+        (expr_whole w y f.3 (integer_value _ f.1))
     form_whole w (return_form None) f h = refl
-    form_whole w (return_form (Some e)) f h = expr_whole w e f.1 (alike_values _ _ f.0).0 h
+    form_whole w (return_form (Some e)) f h = expr_whole w e f.1 (alike_values _ _ f.0).0
     form_whole w _ f h = absurd f
 
-    block_whole : (w : Where) (b : Block) → IsTypedBlock forms w b → is_free_block w.tree b ≡ true → is_whole_block false w b ≡ true
+    block_whole : (w : Where) (b : Block) → IsTypedBlock forms w b → is_free_block b ≡ true → is_whole_block false w b ≡ true
     block_whole w no_statement f h = refl
     block_whole w (then_statement (a_statement line form) rest) f h =
-        let parts = and_parts (is_free_form w.tree form) (is_free_block w.tree rest) h in
+        let parts = and_parts (is_free_form form) (is_free_block rest) h in
         both_true (is_whole_form false (on_line w line) form) (is_whole_block false (after_form w form) rest) (form_whole (on_line w line) form f.0 parts.0)
         (block_whole (after_form w form) rest f.1 parts.1)
 
-    -- tests stand in the scope of the `if` itself
-    arms_whole : (own w : Where) → own.tree ≡ w.tree → (arms : Arms) → AreTypedArms forms own w arms → are_free_arms w.tree arms ≡ true →
-        are_whole_arms false own w arms ≡ true
-    arms_whole own w same no_arm f h = refl
-    arms_whole own w same (an_arm test body rest) f h =
-        let first = and_parts (is_free_expression w.tree test) (is_free_block w.tree body && are_free_arms w.tree rest) h in
-        let later = and_parts (is_free_block w.tree body) (are_free_arms w.tree rest) first.1 in
+    arms_whole : (own w : Where) (arms : Arms) → AreTypedArms forms own w arms → are_free_arms arms ≡ true → are_whole_arms false own w arms ≡ true
+    arms_whole own w no_arm f h = refl
+    arms_whole own w (an_arm test body rest) f h =
+        let parts = and_parts (is_free_block body) (are_free_arms rest) h in
         both_true (is_whole_expression false own test) (is_whole_block false w body && are_whole_arms false own (after_arm w body) rest)
-        (expr_whole own test f.1 (truth_value _ f.0) (subst (λ tree. is_free_expression tree test ≡ true) (sym same) first.0))
-        (both_true (is_whole_block false w body) (are_whole_arms false own (after_arm w body) rest) (block_whole w body f.2 later.0)
-        (arms_whole own (after_arm w body) same rest f.3 later.1))
+        (expr_whole own test f.1 (truth_value _ f.0))
+        (both_true (is_whole_block false w body) (are_whole_arms false own (after_arm w body) rest) (block_whole w body f.2 parts.0)
+        (arms_whole own (after_arm w body) rest f.3 parts.1))
 
-    else_whole : (w : Where) (other : Otherwise) → IsTypedElse forms w other → is_free_else w.tree other ≡ true → is_whole_else false w other ≡ true
+    else_whole : (w : Where) (other : Otherwise) → IsTypedElse forms w other → is_free_else other ≡ true → is_whole_else false w other ≡ true
     else_whole w no_else f h = refl
     else_whole w (else_block body) f h = block_whole w body f h
 
--- where nothing tells of a region that it lies within a part, none began within another
-no_part_told : (i : ℕ) (ks : List Known) → list_all tells_no_part ks ≡ true → first_told (cut_told i) ks ≡ None
-no_part_told i [] h = refl
-no_part_told i (Within (term.Name a) (term.Name b) ∷ ks) h = no_part_told i ks h
-no_part_told i (Within (term.Child p c) (term.Name b) ∷ ks) h = no_part_told i ks h
-no_part_told i (Within (term.Name a) (term.Child p c) ∷ ks) h = absurd (false≢true h)
-no_part_told i (Within (term.Child q d) (term.Child p c) ∷ ks) h = absurd (false≢true h)
-no_part_told i (Apart a b ∷ ks) h = no_part_told i ks h
-no_part_told i (PartOf p r d ∷ ks) h = no_part_told i ks h
-no_part_told i (Made s ∷ ks) h = no_part_told i ks h
-
-none_within : (tree : Tree) (t : TaskTree) (takes : Option Taking) → takes ≡ Some (taking_of tree t) → list_all tells_no_part (told_in tree t) ≡ true →
-    (own r : ℕ) → BeginsWithin takes own r → ⊥
-none_within tree t takes same h own r begins =
-    let begun = (subst (λ o. BeginsWithin o own r) same begins).1 in
-    none-some r (sym (ap (whole_of (told_in tree t)) (no_part_told own (told_in tree t) h)) ∙ begun)
-
 -- so it is of a program
 pub program_whole : (tree : Tree) → (forms : TaskTree → Forms) → ((t : TaskTree) → (forms t).keeps ≡ true) →
-    ((t : TaskTree) → (forms t).takes ≡ Some (taking_of tree t)) → ((k : ℕ) (t : TaskTree) → slice_get (tasks_of tree) k ≡ Some t → IsTypedBlock (forms t) (place_of tree t) t.body) → is_free_program tree ≡ true →
+    ((k : ℕ) (t : TaskTree) → slice_get (tasks_of tree) k ≡ Some t → IsTypedBlock (forms t) (place_of tree t) t.body) → is_free_program tree ≡ true →
     is_whole_program false tree ≡ true
-program_whole tree forms keeps takes typed h = all (tasks_of tree) typed h
+program_whole tree forms keeps typed h = all (tasks_of tree) typed h
   where
     all : (ts : List TaskTree) → ((k : ℕ) (t : TaskTree) → slice_get ts k ≡ Some t → IsTypedBlock (forms t) (place_of tree t) t.body) →
-        list_all (is_free_task tree) ts ≡ true → list_all (is_whole_task false tree) ts ≡ true
+        list_all is_free_task ts ≡ true → list_all (is_whole_task false tree) ts ≡ true
     all [] typed h = refl
     all (t ∷ ts) typed h =
-        let parts = and_parts (is_free_task tree t) (list_all (is_free_task tree) ts) h in
-        let free = and_parts (is_free_block tree t.body) (list_all tells_no_part (told_in tree t)) parts.0 in
+        let parts = and_parts (is_free_task t) (list_all is_free_task ts) h in
         both_true (is_whole_task false tree t) (list_all (is_whole_task false tree) ts)
-        (block_whole (forms t) (keeps t) (none_within tree t (forms t).takes (takes t) free.1) (place_of tree t) t.body (typed zero t refl) free.0)
+        (block_whole (forms t) (keeps t) (place_of tree t) t.body (typed zero t refl) parts.0)
         (all ts (λ k u e. typed (suc k) u e) parts.1)

@@ -34,7 +34,7 @@ use Rattle.code_laws.specs.Typed.{AreFurther, element_field, field_behind, IsBeh
 use Rattle.fit_rules.specs.Shapes.{Shape}
 use Rattle.fit_rules.specs.Marks.{Mark, stacked}
 use Rattle.fit_rules.specs.Fits.{Program}
-use Rattle.sound_code.specs.Ways.{all_made, by_rules, shape_of, Way}
+use Rattle.sound_code.specs.Ways.{Tops, all_made, by_rules, shape_of, Way}
 use Rattle.sound_code.proofs.Asked.{Asked, ruled, Ruled}
 use Rattle.sound_code.proofs.Combining.{both, Marked, nothing_done}
 use Rattle.sound_code.proofs.Pointing.{behind_marked}
@@ -48,7 +48,7 @@ module _ (tree : Tree) (s : Scope) where
   pub told_field : (way : Way) (n f : Name) (rest : Steps) → Told way tree s (access_expr n (field_step f rest)) →
       Told way tree s (access_expr n (field_step f no_step))
   told_field all_made n f rest h = tt
-  told_field (by_rules task) n f rest h =
+  told_field (by_rules tops task) n f rest h =
       let one = first_of_step tree task s (field_of (type_named s.names n) f) in
       let a = option_or_parts (rule_if (not (is_bound s.names n)) rule.Name) _ h.1 in
       let b = option_or_parts one _ a.1 in
@@ -57,7 +57,7 @@ module _ (tree : Tree) (s : Scope) where
   pub told_point : (way : Way) (n : Name) (e : Expression) (f : Name) (rest : Steps) → Told way tree s (access_expr n (at_step e (field_step f rest))) →
       Told way tree s (access_expr n (at_step e (field_step f no_step)))
   told_point all_made n e f rest h = tt
-  told_point (by_rules task) n e f rest h =
+  told_point (by_rules tops task) n e f rest h =
       let t = type_named s.names n in
       let taking = element_of t (known_type tree s e) in
       let own = first_in_expression tree task s e in
@@ -85,21 +85,21 @@ module _ (tree : Tree) (task : TaskTree) (s : Scope) (sound : IsSound tree) wher
       let known = head_known tree task sound s scope e none in
       record { known = subst (IsKnown s) known.1 known.0; none = subst (λ t. first_in_steps tree task s t steps ≡ None) known.1 told }
 
-  pub behind_told : (n f : Name) (rest : Steps) → Told (by_rules task) tree s (access_expr n (field_step f rest)) →
+  pub behind_told : (tops : Tops) (n f : Name) (rest : Steps) → Told (by_rules tops task) tree s (access_expr n (field_step f rest)) →
       AreTold (type_of_field tree (type_named s.names n) f) rest
-  behind_told n f rest h =
+  behind_told tops n f rest h =
       let a = option_or_parts (rule_if (not (is_bound s.names n)) rule.Name) _ h.1 in
-      rest_told (access_expr n (field_step f no_step)) rest h.0 (told_field tree s (by_rules task) n f rest h).1
+      rest_told (access_expr n (field_step f no_step)) rest h.0 (told_field tree s (by_rules tops task) n f rest h).1
       (option_or_parts (first_of_step tree task s (field_of (type_named s.names n) f)) _ a.1).1
 
-  pub point_told : (n : Name) (e : Expression) (f : Name) (rest : Steps) → Told (by_rules task) tree s (access_expr n (at_step e (field_step f rest))) →
+  pub point_told : (tops : Tops) (n : Name) (e : Expression) (f : Name) (rest : Steps) → Told (by_rules tops task) tree s (access_expr n (at_step e (field_step f rest))) →
       AreTold (type_of_field tree (type_of_element s (type_named s.names n) e) f) rest
-  point_told n e f rest h =
+  point_told tops n e f rest h =
       let taking = element_of (type_named s.names n) (known_type tree s e) in
       let a = option_or_parts (rule_if (not (is_bound s.names n)) rule.Name) _ h.1 in
       let b = option_or_parts (first_in_expression tree task s e) _ a.1 in
       let c = option_or_parts (first_of_step tree task s taking) _ b.1 in
-      rest_told (access_expr n (at_step e (field_step f no_step))) rest h.0 (told_point tree s (by_rules task) n e f rest h).1
+      rest_told (access_expr n (at_step e (field_step f no_step))) rest h.0 (told_point tree s (by_rules tops task) n e f rest h).1
       (option_or_parts (first_of_step tree task s (field_of (known_type_after_step tree taking (type_of_element s (type_named s.names n) e)) f)) _ c.1).1
 
   -- one field after the other
@@ -127,8 +127,8 @@ module _ (g : Program) (t : TaskCode) (k slots : ℕ) (forms : Forms) (way : Way
   field_marked u f us far told =
       let reading = option_or_parts (first_of_taking w.tree (field_of u f)) _ told in
       let may = may_each w ways.task u f Read far.pointer far.certain far.field (rule_none _ rule.Read reading.1) in
-      field_read g t k ways.task w m ways.known f (type_of_field w.tree u f) u 0 us far.pointer far.keeps
-      (λ vs. allowed_reached w ways.task g t m asked.params ways.known ways.kept ways.facts ways.named ways.scoped u
+      field_read g t k ways.tops ways.task w m ways.known f (type_of_field w.tree u f) u 0 us far.pointer far.keeps
+      (λ vs. allowed_reached w ways.task ways.tops g t m asked.params ways.known ways.kept ways.facts ways.named ways.scoped u
       (field_place w.tree (space_in u) f) 0 Read vs far.pointer far.reachable far.certain may far.field)
 
   -- fields that are read one after the other
@@ -147,7 +147,7 @@ module _ (g : Program) (t : TaskCode) (k slots : ℕ) (forms : Forms) (way : Way
   behind_further d x f rest us behind far told =
       behind_marked g t k slots forms way w m asked d x f rest us _ keeps behind (told_field w.tree w.scope way x f rest told)
       (fields_marked d rest (field_behind w x f) us far
-      (behind_told w.tree ways.task w.scope ways.kept.sound x f rest (subst (λ v. Told v w.tree w.scope (access_expr x (field_step f rest))) ways.by told)))
+      (behind_told w.tree ways.task w.scope ways.kept.sound ways.tops x f rest (subst (λ v. Told v w.tree w.scope (access_expr x (field_step f rest))) ways.by told)))
 
   -- behind a field of an element
   pub point_further : (d : ℕ) (x : Name) (e : Expression) (f : Name) (rest : Steps) (us : List Shape) → AreFurther forms w (element_field w x e f) rest →
@@ -155,5 +155,5 @@ module _ (g : Program) (t : TaskCode) (k slots : ℕ) (forms : Forms) (way : Way
       Goes (shape_of (element_field w x e f) ∷ us) (steps_code w d (element_field w x e f) 0 rest)
       (shape_of (typed w (access_expr x (at_step e (field_step f rest)))) ∷ us)
   point_further d x e f rest us far told = fields_marked d rest (element_field w x e f) us far
-      (point_told w.tree ways.task w.scope ways.kept.sound x e f rest
+      (point_told w.tree ways.task w.scope ways.kept.sound ways.tops x e f rest
       (subst (λ v. Told v w.tree w.scope (access_expr x (at_step e (field_step f rest)))) ways.by told))

@@ -140,8 +140,8 @@ module _ (g : Program) (t : TaskCode) (k slots : ℕ) (have : HasSlots t slots) 
       (converted_marked g t k slots have forms way w m asked (typed w y) out [] (assigned_becomes _ _ goes) few))
       (both g t k (expr_marked g t k slots have forms way w m asked 0 (front n steps) (shape_of out ∷ []) there inside (front_told_of Write n steps aims) _ st.1.0)
       (subst (λ v. Marked g t k (stacked m (shape_of u ∷ shape_of v ∷ [])) (put_code w u own l how.Set) (stacked m [])) (sym same)
-      (writes_through g t k ways.task w m ways.known l (type_of_field w.tree u l) u own [] far.pointer far.keeps
-      (λ vs. allowed_reached w ways.task g t m asked.params ways.known ways.kept ways.facts ways.named ways.scoped u
+      (writes_through g t k ways.tops ways.task w m ways.known l (type_of_field w.tree u l) u own [] far.pointer far.keeps
+      (λ vs. allowed_reached w ways.task ways.tops g t m asked.params ways.known ways.kept ways.facts ways.named ways.scoped u
       (field_place w.tree (space_in u) l) own Write vs far.pointer far.reachable far.certain may far.field))))
 
   pub reduce_further : (n : Name) (steps : Steps) (own : ℕ) (o : Op) (y : Expression) →
@@ -159,9 +159,9 @@ module _ (g : Program) (t : TaskCode) (k slots : ℕ) (have : HasSlots t slots) 
       let may = front_may (Reduce o) n steps (mode.Reduce o) aims far in
       both g t k (expr_marked g t k slots have forms way w m asked 0 y [] fine whole told pc st.0)
       (both g t k (expr_marked g t k slots have forms way w m asked 0 (front n steps) (a ∷ []) there inside (front_told_of (Reduce o) n steps aims) _ st.1.0)
-      (reduces_through g t k ways.task w m ways.known l (type_of_field w.tree u l) u own o a [] far.pointer (subst IsInteger same integer)
+      (reduces_through g t k ways.tops ways.task w m ways.known l (type_of_field w.tree u l) u own o a [] far.pointer (subst IsInteger same integer)
       (scalar_numeric _ (integer_is_plain _ number)) far.keeps
-      (λ vs. allowed_reached w ways.task g t m asked.params ways.known ways.kept ways.facts ways.named ways.scoped u
+      (λ vs. allowed_reached w ways.task ways.tops g t m asked.params ways.known ways.kept ways.facts ways.named ways.scoped u
       (field_place w.tree (space_in u) l) own (Reduce o) vs far.pointer far.reachable far.certain may far.field)))
 
   -- ---- `p.f.g = y`, `r[e].f.g = y`, and their reductions

@@ -5,19 +5,21 @@ use Rattle.std.specs.Prelude.{nat_le, pos, slice_get}
 use Rattle.std.proofs.lemmas.Bool.{false≢true, le-leb}
 use Rattle.plain_values.specs.Points.{has}
 use Rattle.regent_tree.proofs.Members.{Has, Has-from_Contains}
-use Rattle.regent_tree.specs.Facts.{are_disjoint, is_subregion}
+use Rattle.regent_tree.specs.Facts.{are_disjoint}
 use Rattle.regent_tree.specs.Values.{Region, no_region}
+use Rattle.regent_tree.specs.declared.facts.Colour.{Colour}
+use Rattle.regent_tree.specs.declared.facts.Colour.TheVariants.{Constant, Loop, Unknown}
 use Rattle.regent_tree.specs.declared.facts.Known.{Known}
-use Rattle.regent_tree.specs.declared.facts.Term.TheVariants.{Name}
+use Rattle.regent_tree.specs.declared.facts.Term.TheVariants.{Child, Name}
 use Rattle.machine_terms.specs.declared.value.RegionValue.{RegionValue}
 use Rattle.machine_terms.specs.declared.value.Value.{Value}
 use Rattle.machine_terms.specs.Pointers.{region_in}
-use Rattle.fact_laws.specs.Regions.{AllHold, Holds as FactHolds, Interpretation, IsIn, LiesWithin, SharesNoPoint, child_at}
+use Rattle.fact_laws.specs.Regions.{AllHold, Holds as FactHolds, Interpretation, IsIn, LiesWithin, LiesWithinSome, SharesNoPoint, child_at}
 use Rattle.fact_laws.proofs.Facts.{answers_hold}
 use Rattle.fit_rules.specs.Shapes.{Among, KnowsRoots, World}
 use Rattle.fit_rules.specs.Marks.{Fact, Holds, in_slot, LiesAt}
 use Rattle.marked_code.proofs.Placed.{below}
-use Rattle.sound_code.proofs.Grounds.{IsTold, tells_apart, tells_made, tells_part, tells_within}
+use Rattle.sound_code.proofs.Grounds.{IsTold, tells_apart, tells_begun, tells_made, tells_part, tells_within}
 
 -- ---- regions by their numbers
 
@@ -33,13 +35,17 @@ abbrev pub made_at : World → Option ℕ → Region
 made_at x None = no_region
 made_at x (Some r) = record { root = r; points = x.points r }
 
--- that of an argument, or the root that the task made last under the number
-abbrev pub region_at : World → ℕ → ℕ → Region
-region_at x params i = cond (nat_le params i) (made_at x (x.last i)) (taken_at (region_in (slice_get x.args i)))
+-- that of an argument, or the root that the task made last under the number; one that began as a part is read as none
+abbrev pub behind_at : World → ℕ → Option (ℕ × ℕ) → Region
+behind_at x i None = made_at x (x.last i)
+behind_at x i (Some k) = no_region
 
-abbrev pub standing_for : World → ℕ → Interpretation
-standing_for x params = record {
-  region = region_at x params;
+abbrev pub region_at : World → ℕ → (ℕ → Option (ℕ × ℕ)) → ℕ → Region
+region_at x params up i = cond (nat_le params i) (behind_at x i (up i)) (taken_at (region_in (slice_get x.args i)))
+
+abbrev pub standing_for : World → ℕ → (ℕ → Option (ℕ × ℕ)) → Interpretation
+standing_for x params up = record {
+  region = region_at x params up;
   partition = λ p. record { root = 0; disjoint = true; sets = [] };
   number = λ i. pos 0;
 }
@@ -51,19 +57,19 @@ not_below a b l = of (nat_le a b) refl
     of true e = absurd (omega (arith, l, leb-true a b e))
     of false e = e
 
-module _ (x : World) (params : ℕ) where
-  pub low_region : (i : ℕ) → i < params → region_at x params i ≡ taken_at (region_in (slice_get x.args i))
-  low_region i l = ap (λ b. cond b (made_at x (x.last i)) (taken_at (region_in (slice_get x.args i)))) (not_below params i l)
+module _ (x : World) (params : ℕ) (up : ℕ → Option (ℕ × ℕ)) where
+  pub low_region : (i : ℕ) → i < params → region_at x params up i ≡ taken_at (region_in (slice_get x.args i))
+  low_region i l = ap (λ b. cond b (behind_at x i (up i)) (taken_at (region_in (slice_get x.args i)))) (not_below params i l)
 
-  pub high_region : (i : ℕ) → params ≤ i → region_at x params i ≡ made_at x (x.last i)
-  high_region i l = ap (λ b. cond b (made_at x (x.last i)) (taken_at (region_in (slice_get x.args i)))) (le-leb params i l)
+  pub high_region : (i : ℕ) (o : Option (ℕ × ℕ)) → params ≤ i → up i ≡ o → region_at x params up i ≡ behind_at x i o
+  high_region i o l e = ap (λ b. cond b (behind_at x i (up i)) (taken_at (region_in (slice_get x.args i)))) (le-leb params i l) ∙ ap (behind_at x i) e
 
 -- ---- what is known holds
 
 nothing_in : (root point : ℕ) → IsIn no_region root point → ⊥
 nothing_in root point h = false≢true h.1
 
-module _ (x : World) (params : ℕ) (vs : List Value) (knows : KnowsRoots x)
+module _ (x : World) (params : ℕ) (up : ℕ → Option (ℕ × ℕ)) (vs : List Value) (knows : KnowsRoots x)
     (args : (i : ℕ) → i < params → region_in (slice_get vs i) ≡ region_in (slice_get x.args i))
     (ks : List Fact) (holds : (k : Fact) → Among ks k → Holds k vs) where
   taken_lies : (b : ℕ) (o : Option RegionValue) → ((r : RegionValue) → o ≡ Some r → LiesAt vs r (in_slot b)) → b < params →
@@ -92,19 +98,19 @@ module _ (x : World) (params : ℕ) (vs : List Value) (knows : KnowsRoots x)
   made_from_made i r (Some u) (Some v) e f n root point h j = n (knows.one_number i r u e (f ∙ ap Some (j.0 ∙ sym h.0)))
 
   abbrev m : Interpretation
-  m = standing_for x params
+  m = standing_for x params up
 
-  told_holds : (k : Known) → IsTold params ks k → FactHolds m k
+  told_holds : (k : Known) → IsTold params up ks k → FactHolds m k
   told_holds _ (tells_within a b la lb h) = λ r e. record {
-    outer = region_at x params b;
+    outer = region_at x params up b;
     stands = refl;
-    lies = subst (λ q. LiesWithin q (region_at x params b)) (sym (low_region x params a la) ∙ e)
-        (subst (LiesWithin (taken_at (region_in (slice_get x.args a)))) (sym (low_region x params b lb))
+    lies = subst (λ q. LiesWithin q (region_at x params up b)) (sym (low_region x params up a la) ∙ e)
+        (subst (LiesWithin (taken_at (region_in (slice_get x.args a)))) (sym (low_region x params up b lb))
         (taken_lies b (region_in (slice_get x.args a)) (λ u f. holds _ h u (args a la ∙ f)) lb));
   }
   told_holds _ (tells_apart a b la lb h) = λ r t e f.
-      subst (λ q. SharesNoPoint q t) (sym (low_region x params a la) ∙ e)
-      (subst (SharesNoPoint (taken_at (region_in (slice_get x.args a)))) (sym (low_region x params b lb) ∙ f)
+      subst (λ q. SharesNoPoint q t) (sym (low_region x params up a la) ∙ e)
+      (subst (SharesNoPoint (taken_at (region_in (slice_get x.args a)))) (sym (low_region x params up b lb) ∙ f)
       (taken_apart (region_in (slice_get x.args a)) (region_in (slice_get x.args b)) (λ u v p q. holds _ h u v (args a la ∙ p) (args b lb ∙ q))))
   told_holds _ (tells_part p r d) = record {
     within = λ c root point i. absurd (no_child c root point i);
@@ -114,23 +120,34 @@ module _ (x : World) (params : ℕ) (vs : List Value) (knows : KnowsRoots x)
       no_child : (c : _) (root point : ℕ) → IsIn (child_at (m.partition p) c) root point → ⊥
       no_child (pos c) root point i = false≢true i.1
       no_child (negsuc c) root point i = false≢true i.1
-  told_holds _ (tells_made i l) = λ r lr. elim (below r params) [
-    | inl low ↦ subst (λ q. SharesNoPoint q (region_at x params r)) (sym (high_region x params i l))
-        (subst (SharesNoPoint (made_at x (x.last i))) (sym (low_region x params r low))
-        (made_from_taken i r (x.last i) (region_in (slice_get x.args r)) refl refl))
-    | inr high ↦ subst (λ q. SharesNoPoint q (region_at x params r)) (sym (high_region x params i l))
-        (subst (SharesNoPoint (made_at x (x.last i))) (sym (high_region x params r high))
-        (made_from_made i r (x.last i) (x.last r) refl refl (λ e. omega (arith, e, lr))))
-  ]
+  told_holds _ (tells_made i l e) = λ r lr. subst (λ q. SharesNoPoint q (region_at x params up r)) (sym (high_region x params up i None l e)) (elim (below r params) [
+    | inl low ↦ subst (SharesNoPoint (made_at x (x.last i))) (sym (low_region x params up r low))
+        (made_from_taken i r (x.last i) (region_in (slice_get x.args r)) refl refl)
+    | inr high ↦ subst (SharesNoPoint (made_at x (x.last i))) (sym (high_region x params up r (up r) high refl)) (of_behind i r (λ e. omega (arith, e, lr)) (up r))
+  ])
+    where
+      of_behind : (i r : ℕ) → i ≢ r → (o : Option (ℕ × ℕ)) → SharesNoPoint (made_at x (x.last i)) (behind_at x r o)
+      of_behind i r n None = made_from_made i r (x.last i) (x.last r) refl refl n
+      of_behind i r n (Some k) = λ root point h j. nothing_in root point j
+  told_holds _ (tells_begun i p k c l e) = λ r er. by c r (sym er ∙ high_region x params up i (Some k) l e)
+    where
+      -- what is read as none lies within a child of each colour
+      none_lies : (r q : Region) → r ≡ no_region → LiesWithin r q
+      none_lies r q same root point h = absurd (nothing_in root point (subst (λ d. IsIn d root point) same h))
 
-  module _ (known : List Known) (told : (k : Known) → Has known k → IsTold params ks k) where
+      by : (c : Colour) (r : Region) → r ≡ no_region → LiesWithinSome m r (Child p c)
+      by (Constant z) r same = record { outer = child_at (m.partition p) z; stands = record { number = z; is_colour = refl; is_child = refl }; lies = none_lies r (child_at (m.partition p) z) same }
+      by (Loop n) r same = record {
+        outer = child_at (m.partition p) (m.number n);
+        stands = record { number = m.number n; is_colour = refl; is_child = refl };
+        lies = none_lies r (child_at (m.partition p) (m.number n)) same;
+      }
+      by Unknown r same = record { outer = child_at (m.partition p) (pos 0); stands = record { number = pos 0; is_colour = tt; is_child = refl }; lies = none_lies r (child_at (m.partition p) (pos 0)) same }
+
+  module _ (known : List Known) (told : (k : Known) → Has known k → IsTold params up ks k) where
     all_hold : AllHold m known
     all_hold k c = told_holds k (told k (Has-from_Contains known k c))
 
     -- regions that are derived to share no point share none
-    pub apart_by_number : (i j : ℕ) → are_disjoint known (Name i) (Name j) ≡ true → SharesNoPoint (region_at x params i) (region_at x params j)
-    apart_by_number i j e = (answers_hold m known all_hold (Name i) (Name j)).disjoint e (region_at x params i) (region_at x params j) refl refl
-
-    -- and one that is derived to lie within another lies there
-    pub within_by_number : (i j : ℕ) → is_subregion known (Name i) (Name j) ≡ true → LiesWithin (region_at x params i) (region_at x params j)
-    within_by_number i j e = (answers_hold m known all_hold (Name i) (Name j)).subregion e (region_at x params i) (region_at x params j) refl refl
+    pub apart_by_number : (i j : ℕ) → are_disjoint known (Name i) (Name j) ≡ true → SharesNoPoint (region_at x params up i) (region_at x params up j)
+    apart_by_number i j e = (answers_hold m known all_hold (Name i) (Name j)).disjoint e (region_at x params up i) (region_at x params up j) refl refl

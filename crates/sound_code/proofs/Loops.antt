@@ -17,6 +17,7 @@ use Rattle.fit_rules.specs.Marks.{Mark, stacked}
 use Rattle.fit_rules.specs.Fits.{Program}
 use Rattle.fit_rules.specs.Sound.{RoundNumber}
 use Rattle.marked_code.specs.Marked.{typed_rounds}
+use Rattle.fit_laws.proofs.Held.{none_held}
 use Rattle.fit_laws.proofs.Keeping.{get_other, set_mark}
 use Rattle.sound_code.specs.Ways.{Way}
 use Rattle.sound_code.specs.Named.{slot_at, Ready}
@@ -70,7 +71,7 @@ module _ (g : Program) (t : TaskCode) (k : ℕ) (way : Way) (params : ℕ) (bs :
       record {
         slots = set_at x _ _ c I _ (set_at x head.slots vs v I _ s.slots (is_number I i fi))
             (is_number I _ (raised_fits w i e fi fe lt));
-        stack = s.stack;
+        stack = none_held _ _ st s.stack;
         facts = behind_kept way params bs m c r (omega arith) _ _ (behind_kept way params bs m v r (omega arith) vs _ s.facts);
         top = tt;
         args = λ j h. ap region_in (get_other (slice_set vs v (value.Number i)) c j _ (λ q. omega (arith, q, h, high, ep))
@@ -86,12 +87,12 @@ module _ (g : Program) (t : TaskCode) (k : ℕ) (way : Way) (params : ℕ) (bs :
   counted a b line body ha hb f =
       let high = slot_high params (length bs) r.low in
       let long = long_head way params bs m r I I I m.facts hi in
-      both g t k (storing g t k m l b I (a ∷ []) line (behind_kept way params bs m l r (omega arith)) (omega (arith, high, ep)) hi hb)
-      (both g t k (storing g t k (set_mark m l I []) c a I [] line (behind_kept way params bs m c r (omega arith)) (omega (arith, high, ep))
+      both g t k (storing g t k m l b I (a ∷ []) line (behind_kept way params bs m l r (omega arith)) (omega (arith, high, ep)) (omega (arith, r.fixed)) tt hi hb)
+      (both g t k (storing g t k (set_mark m l I []) c a I [] line (behind_kept way params bs m c r (omega arith)) (omega (arith, high, ep)) (omega (arith, r.fixed)) tt
       (omega (arith, hi, long_be way params bs m r I I I m.facts hi)) ha)
       (into g t k (record {
         marks = _;
         is = typed_rounds (stacked head []) round c l v I I line body _ (counter_there way params bs m r I I I m.facts hi) (numeric_integer w)
             (limit_there way params bs m r I I I m.facts hi) (numeric_integer w) (omega (arith, hi, long)) rounds_on
             (long_round way params bs m r I I I m.facts hi ∙ sym long) f.is;
-      }) (narrow_into t.params head m [] (head_narrow way params bs m r I I I m.facts hi) (same_facts _ _ refl)) (sym long)))
+      }) (narrow_into t.params head m (head_narrow way params bs m r I I I m.facts hi) (same_facts _ _ refl)) (sym long)))

@@ -1,7 +1,7 @@
--- What is derived of a region's name from what clauses tell of parameters: it is the same name, or its region lies within that of
--- another parameter.
-use Rattle.std.proofs.Common.{◌≡◌, ◌⊎◌, inl, inr, ⊎_elim, ℕ, ◌<◌, List, Bool, true, Some, refl, sym, ap, ◌∙◌, subst, arith}
-use Rattle.std.specs.Prelude.{slice_get}
+-- What is derived of a region's name, or of a part, from what is known: it lies within one region that began as no part, as it
+-- does itself, or that region lies within another parameter's, in which the other one lies.
+use Rattle.std.proofs.Common.{◌≡◌, ℕ, ◌<◌, List, Bool, true, false, cond, None, Option, Some, refl, sym, ap, ◌∙◌, subst, arith}
+use Rattle.std.specs.Prelude.{nat_le, slice_get}
 use Rattle.regent_tree.proofs.Members.{Has, Has-from_Contains}
 use Rattle.regent_tree.specs.Facts.{is_subregion}
 use Rattle.regent_tree.specs.declared.facts.Colour.{Colour}
@@ -17,89 +17,78 @@ use Rattle.constraint_check.proofs.Table.{is_subregion-derivable}
 use Rattle.fit_rules.specs.Shapes.{Among, World}
 use Rattle.fit_rules.specs.Marks.{Fact, Holds, in_slot, lies, LiesAt, LiesIn, Mark, Suits}
 use Rattle.fit_laws.proofs.Lookup.{each_among}
-use Rattle.sound_code.proofs.Grounds.{IsTold, tells_within}
-use Rattle.sound_code.proofs.Parting.{below_part, IsOver, IsPartOf}
+use Rattle.sound_code.proofs.Grounds.{high_top, IsTold, low_top, tells_begun, tells_within, top_in}
 
-abbrev pub number_of_name : Term → ℕ
-number_of_name (Name i) = i
-number_of_name (Child p c) = 0
+pub top_none : (params j : ℕ) → top_in params (λ i. None) j ≡ j
+top_none params j = of (nat_le params j)
+  where
+    of : (b : Bool) → cond b j j ≡ j
+    of true = refl
+    of false = refl
 
-module _ (n params : ℕ) (ks : List Fact) (m : Mark) where
+-- within which region, that began as no part, what a term stands for lies
+abbrev pub Stands : ℕ → (ℕ → Option (ℕ × ℕ)) → List Known → Term → ℕ → Type 0
+Stands params up known (Name i) k = top_in params up i ≡ k
+Stands params up known (Child p c) k = (r : ℕ) (d : Bool) → Has known (PartOf p r d) → top_in params up r ≡ k
+
+module _ (n params : ℕ) (up : ℕ → Option (ℕ × ℕ)) (ks : List Fact) (m : Mark) (known : List Known) where
   -- a parameter's region lies within that of another one
   abbrev Inside : ℕ → ℕ → Type 0
   Inside i j = (x : World) (vs st : List Value) → Suits x n m vs st → (r : RegionValue) →
       region_in (slice_get vs i) ≡ Some r → LiesAt vs r (in_slot j)
 
-  pub record AreInside (i : ℕ) (b : Term) : Type 0 where
+  -- of two regions that began as no parts: they are the same, or both are parameters'
+  pub data Over (k u : ℕ) : Type 0 where
+    over_same : k ≡ u → Over k u
+    over_inside : k < params → u < params → Inside k u → IsBelow known (Name k) (Name u) → Over k u
+
+  over_through : (k u v : ℕ) → Over k u → Over u v → Over k v
+  over_through k u v (over_same e) o = subst (λ n. Over n v) (sym e) o
+  over_through k u v (over_inside low high inside below) (over_same e) = subst (Over k) e (over_inside low high inside below)
+  over_through k u v (over_inside low mid inside below) (over_inside lower high outside above) = over_inside low high
+      (λ x vs st q r e.
+      let one = inside x vs st q r e in
+      let two = outside x vs st q one.other one.at in record {
+        other = two.other;
+        at = two.at;
+        inside = (one.inside.0 ∙ two.inside.0, λ p y. two.inside.1 p (one.inside.1 p y));
+      }) (through below above)
+
+  pub record Reaches (k : ℕ) (b : Term) : Type 0 where
     pub upper : ℕ
-    pub is : b ≡ Name upper
-    pub low : i < params
-    pub high : upper < params
-    pub inside : Inside i upper
+    pub stands : Stands params up known b upper
+    pub over : Over k upper
 
-  -- what is derived of a name: it is the same, or both are parameters
-  abbrev pub Lower : Term → Term → Type 0
-  Lower (Name i) b = (Name i ≡ b) ⊎ AreInside i b
-  Lower (Child p c) b = Unit {0}
-
-  -- by way of a third
-  by_third : (a b c : Term) → Lower a b → Lower b c → Lower a c
-  by_third (Child p d) b c h l = tt
-  by_third (Name i) b c (inl e) l = subst (λ y. Lower y c) (sym e) l
-  by_third (Name i) b c (inr h) l = elim (subst (λ y. Lower y c) h.is l) [
-    | inl e ↦ inr (record { upper = h.upper; is = sym e; low = h.low; high = h.high; inside = h.inside })
-    | inr k ↦ inr (record {
-      upper = k.upper;
-      is = k.is;
-      low = h.low;
-      high = k.high;
-      inside = λ x vs st q r e.
-          let one = h.inside x vs st q r e in
-          let two = k.inside x vs st q one.other one.at in record {
-            other = two.other;
-            at = two.at;
-            inside = (one.inside.0 ∙ two.inside.0, λ p y. two.inside.1 p (one.inside.1 p y));
-          };
-    })
-  ]
-
-  module _ (facts : (k : Fact) → Among ks k → Among m.facts k) (known : List Known) (told : (k : Known) → Has known k → IsTold params ks k) where
-    of_told : (a b : Term) → IsTold params ks (Within a b) → Lower a b
-    of_told _ _ (tells_within i j li lj h) = inr (record {
+  module _ (facts : (k : Fact) → Among ks k → Among m.facts k) (told : (k : Known) → Has known k → IsTold params up ks k)
+      (begins : (i p : ℕ) (c : Colour) → Has known (Within (Name i) (Child p c)) → (r : ℕ) (d : Bool) → Has known (PartOf p r d) →
+      up i ≡ Some (r, top_in params up r)) where
+    of_told : (a b : Term) → IsTold params up ks (Within a b) → IsBelow known a b → Has known (Within a b) → (k : ℕ) → Stands params up known a k → Reaches k b
+    of_told _ _ (tells_within i j li lj h) below has k s = record {
       upper = j;
-      is = refl;
-      low = li;
-      high = lj;
-      inside = λ x vs st q r e. each_among (λ y. Holds y vs) m.facts (lies (in_slot i) (in_slot j)) (facts _ h) q.facts r e;
-    })
+      stands = low_top params up j lj;
+      over = subst (λ n. Over n j) (sym (low_top params up i li) ∙ s) (over_inside li lj
+          (λ x vs st q r e. each_among (λ y. Holds y vs) m.facts (lies (in_slot i) (in_slot j)) (facts _ h) q.facts r e) below);
+    }
+    of_told _ _ (tells_begun i p q c high e) below has k s = record {
+      upper = k;
+      stands = λ r d h. sym (high_top params up i (Some (r, top_in params up r)) high (begins i p c has r d h)) ∙ s;
+      over = over_same refl;
+    }
 
-    lower : {a b : Term} → IsBelow known a b → Lower a b
-    lower (same {a}) = itself a
-      where
-        itself : (a : Term) → Lower a a
-        itself (Name i) = inl refl
-        itself (Child p c) = tt
-    lower (told_within {a} {b} h) = of_told a b (told (Within a b) (Has-from_Contains known (Within a b) h))
-    lower (through {a} {b} {c} h l) = by_third a b c (lower h) (lower l)
-    lower (child h) = tt
-    lower (variable {s = i} {p = p} {c = c} h) = of_told (Name i) (Child p c) (told _ (Has-from_Contains known _ h))
+    pub reach : {a b : Term} → IsBelow known a b → (k : ℕ) → Stands params up known a k → Reaches k b
+    reach same k s = record { upper = k; stands = s; over = over_same refl }
+    reach (told_within {a} {b} h) k s = let has = Has-from_Contains known (Within a b) h in of_told a b (told (Within a b) has) (told_within h) has k s
+    reach (through h l) k s =
+        let one = reach h k s in
+        let two = reach l one.upper one.stands in
+        record { upper = two.upper; stands = two.stands; over = over_through k one.upper two.upper one.over two.over }
+    reach (child {p = p} {r = r} {disjoint = d} h) k s =
+        record { upper = k; stands = s r d (Has-from_Contains known (PartOf p r d) h); over = over_same refl }
+    reach (variable {s = i} {p = p} {c = c} h) k s =
+        let has = Has-from_Contains known (Within (Name i) (Child p c)) h in of_told (Name i) (Child p c) (told (Within (Name i) (Child p c)) has) (variable h) has k s
 
-    pub is_lower : (a b : Term) → is_subregion known a b ≡ true → Lower a b
-    is_lower a b e = lower ((is_subregion-derivable known a b).0 e).below
-
-    -- what is derived of a part: it is one of the same partition, or it is derived of the region of which that is
-    pub record OverPart (p : ℕ) (b : Term) : Type 0 where
-      pub parent : ℕ
-      pub flag : Bool
-      pub of : Has known (PartOf p parent flag)
-      pub over : Lower (Name parent) b
-
-    pub lower_part : (p : ℕ) (c : Colour) (b : Term) → is_subregion known (Child p c) b ≡ true → IsPartOf p b ⊎ OverPart p b
-    lower_part p c b e = ⊎_elim inl (λ (o : IsOver known p b). inr (record { parent = o.parent; flag = o.flag; of = o.of; over = lower o.over }))
-        (below_part params ks known told ((is_subregion-derivable known (Child p c) b).0 e).below p refl)
-
-    pub is_lower_part : (p : ℕ) (c : Colour) (j : ℕ) → is_subregion known (Child p c) (Name j) ≡ true → OverPart p (Name j)
-    is_lower_part p c j e = ⊎_elim (λ q. absurd q) (λ o. o) (lower_part p c (Name j) e)
+    pub reaches : (a b : Term) (k : ℕ) → Stands params up known a k → is_subregion known a b ≡ true → Reaches k b
+    reaches a b k s e = reach ((is_subregion-derivable known a b).0 e).below k s
 
   -- ---- so of arguments
 
@@ -109,21 +98,18 @@ module _ (n params : ℕ) (ks : List Fact) (m : Mark) where
     pub inside : LiesIn r other
     pub low : j < params
 
-  pub above : params ≡ n → (i j : ℕ) → i < params → Lower (Name i) (Name j) → (x : World) (vs st : List Value) → Suits x n m vs st →
-      (r : RegionValue) → region_in (slice_get x.args i) ≡ Some r → IsAbove x r j
-  above ep i j low (inl e) x vs st h r er =
-      let same : i ≡ j = ap number_of_name e in record {
-        other = r;
-        at = ap (λ y. region_in (slice_get x.args y)) (sym same) ∙ er;
-        inside = (refl, λ p y. y);
-        low = omega (arith, same, low);
-      }
-  above ep i j low (inr k) x vs st h r er =
-      let same : j ≡ k.upper = ap number_of_name k.is in
-      let high = k.high in
-      let w = k.inside x vs st h r (h.args i (omega (arith, low, ep)) ∙ er) in record {
+  pub above : params ≡ n → (k j : ℕ) → k < params → Over k j → (x : World) (vs st : List Value) → Suits x n m vs st →
+      (r : RegionValue) → region_in (slice_get x.args k) ≡ Some r → IsAbove x r j
+  above ep k j low (over_same e) x vs st h r er = record {
+    other = r;
+    at = ap (λ y. region_in (slice_get x.args y)) (sym e) ∙ er;
+    inside = (refl, λ p y. y);
+    low = omega (arith, e, low);
+  }
+  above ep k j low (over_inside _ high inside below) x vs st h r er =
+      let w = inside x vs st h r (h.args k (omega (arith, low, ep)) ∙ er) in record {
         other = w.other;
-        at = sym (h.args j (omega (arith, same, high, ep))) ∙ ap (λ y. region_in (slice_get vs y)) same ∙ w.at;
+        at = sym (h.args j (omega (arith, high, ep))) ∙ w.at;
         inside = w.inside;
-        low = omega (arith, same, high);
+        low = high;
       }

@@ -1,11 +1,12 @@
 -- Shapes of slots: another one in a slot, and what tells less.
 use Rattle.std.proofs.Common.{◌≡◌, ◌⊎◌, inl, inr, ℕ, zero, suc, ◌<◌, ◌≤◌, List, [], ◌∷◌, Some, refl, sym, ap, ◌∙◌, subst, arith}
-use Rattle.std.specs.Prelude.{slice_get, slice_set, length}
+use Rattle.std.specs.Prelude.{slice_get, slice_set, length, take}
 use Rattle.std.proofs.lemmas.Option.{same_Some}
 use Rattle.regent_tree.specs.declared.typing.Bound.{Bound}
 use Rattle.machine_terms.specs.declared.value.Value.{Value}
-use Rattle.fit_rules.specs.Shapes.{Among, Each, Shape, anything, World, Is, is_anything, Are, are_none, are_more}
+use Rattle.fit_rules.specs.Shapes.{Among, Each, Shape, anything, holding, World, Is, is_anything, Are, are_none, are_more}
 use Rattle.fit_rules.specs.Marks.{Fact, Holds, Mark, Into, stacked}
+use Rattle.fit_laws.proofs.Held.{none_held}
 use Rattle.fit_laws.proofs.Keeping.{get_other}
 use Rattle.fit_laws.proofs.Lookup.{each_among}
 use Rattle.sound_code.specs.Ways.{Way}
@@ -56,12 +57,23 @@ narrow_long _ _ narrow_none = refl
 narrow_long _ _ (narrow_same s ss us n) = ap suc (narrow_long ss us n)
 narrow_long _ _ (narrow_any s ss us n) = ap suc (narrow_long ss us n)
 
--- a mark of narrower slots, with the other's facts, leads into the other
-pub narrow_into : (params : ℕ) (m n : Mark) (us : List Shape) → Narrower m.slots n.slots →
-    ((vs : List Value) → Each (λ k. Holds k vs) m.facts → Each (λ k. Holds k vs) n.facts) → Into params (stacked m us) (stacked n us)
-narrow_into params m n us h more x vs st s = record {
+-- a mark of narrower slots, with the other's facts, leads into the other where nothing stands on the stack
+pub narrow_into : (params : ℕ) (m n : Mark) → Narrower m.slots n.slots →
+    ((vs : List Value) → Each (λ k. Holds k vs) m.facts → Each (λ k. Holds k vs) n.facts) → Into params (stacked m []) (stacked n [])
+narrow_into params m n h more x vs st s = record {
   slots = narrow_are x _ _ vs h s.slots;
-  stack = s.stack;
+  stack = none_held _ _ st s.stack;
+  facts = more vs s.facts;
+  top = tt;
+  args = s.args;
+}
+
+-- and whatever stands there, where the same slots stay
+pub narrow_over : (params : ℕ) (m n : Mark) (us : List Shape) → n.fixed ≡ m.fixed → Narrower m.slots n.slots →
+    ((vs : List Value) → Each (λ k. Holds k vs) m.facts → Each (λ k. Holds k vs) n.facts) → Into params (stacked m us) (stacked n us)
+narrow_over params m n us same h more x vs st s = record {
+  slots = narrow_are x _ _ vs h s.slots;
+  stack = subst (λ l. Are (holding x (take l vs)) us st) (sym same) s.stack;
   facts = more vs s.facts;
   top = tt;
   args = s.args;

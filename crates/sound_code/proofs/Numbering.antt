@@ -1,9 +1,9 @@
 -- Roots that are made under the numbers of names: a root is made under a number that no name has.
-use Rattle.std.proofs.Common.{◌≡◌, ◌≢◌, inl, inr, ℕ, zero, suc, ◌<◌, ◌+◌, List, [], ◌∷◌, map, Bool, true, false, cond, Some, refl, sym, ap, subst, arith}
-use Rattle.std.specs.Prelude.{slice_get, slice_set, ◌==◌}
+use Rattle.std.proofs.Common.{◌≡◌, ◌≢◌, inl, inr, ℕ, zero, suc, ◌<◌, ◌+◌, List, [], ◌∷◌, map, cond, Some, sym, ap, ◌∙◌, subst, arith}
+use Rattle.std.specs.Prelude.{slice_get, slice_set}
 use Rattle.std.proofs.lemmas.Option.{none-some, same_Some}
-use Rattle.std.proofs.lemmas.Bool.{eqb-true, le-leb}
-use Rattle.regent_tree.specs.Scopes.{bound_as, Scope}
+use Rattle.std.proofs.lemmas.Bool.{le-leb}
+use Rattle.regent_tree.specs.Scopes.{Scope}
 use Rattle.regent_tree.specs.StaticTypes.{Reach}
 use Rattle.regent_tree.specs.Syntax.{Form, Tree}
 use Rattle.regent_tree.specs.declared.facts.Term.TheVariants as term
@@ -13,12 +13,12 @@ use Rattle.regent_tree.specs.declared.typing.StaticType.{StaticType}
 use Rattle.regent_tree.specs.declared.typing.StaticType.TheVariants.{Region as region_type}
 use Rattle.machine_terms.specs.declared.value.Value.{Value}
 use Rattle.check_laws.specs.SoundScopes.{Falls}
-use Rattle.code_laws.specs.Simple.{IsRegion, IsSimple, simple_index, simple_integer, simple_space, simple_truth}
-use Rattle.fit_rules.specs.Shapes.{Among, Each, Shape, anything, integer, truth, index, pointer, space, region, partition, awaited, cut_from, Origin, unknown, argument, own_root, own_as, part, World, Is, is_number, is_region}
+use Rattle.code_laws.specs.Simple.{IsSimple, simple_index, simple_integer, simple_space, simple_truth}
+use Rattle.fit_rules.specs.Shapes.{Among, Each, Shape, anything, integer, truth, index, pointer, space, region, partition, awaited, cut_from, Origin, unknown, argument, own_root, own_as, part, child_at, held_at, World, Is, is_number, is_region}
 use Rattle.fit_rules.specs.Sound.{IsElsewhere, IsOther}
 use Rattle.sound_code.specs.Named.{IsNumbered, IsOfNumber}
-use Rattle.sound_code.specs.Ways.{Way, all_made, by_rules, origin_in, shape_in}
-use Rattle.sound_code.proofs.Grounds.{Ground}
+use Rattle.sound_code.specs.Ways.{origin_behind, Way, all_made, by_rules, origin_in, shape_in}
+use Rattle.sound_code.proofs.Grounds.{BeginsWholly, Ground}
 use Rattle.sound_code.proofs.Told.{ToldForm}
 
 abbrev pub numbers_of : List Bound → List ℕ
@@ -32,6 +32,8 @@ origin_more bs b (argument i) h = tt
 origin_more bs b own_root h = tt
 origin_more bs b (own_as i) h = inr h
 origin_more bs b (part o) h = origin_more bs b o h
+origin_more bs b (child_at s c o) h = origin_more bs b o h
+origin_more bs b (held_at s o) h = origin_more bs b o h
 
 pub numbered_more : (bs : List Bound) (b : Bound) (s : Shape) → IsNumbered bs s → IsNumbered (b ∷ bs) s
 numbered_more bs b anything h = tt
@@ -67,16 +69,6 @@ simple_numbered way params bs _ simple_truth = tt
 simple_numbered way params bs _ (simple_space c) = tt
 simple_numbered way params bs _ (simple_index c) = tt
 
--- the number of a region that is bound with it
-pub number_among : (bs : List Bound) (i : ℕ) → IsRegion (bound_as bs i).static_type → Among (numbers_of bs) i
-number_among [] i r = elim r [ ]
-number_among (b ∷ bs) i r = chosen (b.number == i) refl (number_among bs i) r
-  where
-    chosen : (c : Bool) → b.number == i ≡ c → (IsRegion (bound_as bs i).static_type → Among (numbers_of bs) i) → IsRegion (cond c b (bound_as bs i)).static_type →
-        Among (numbers_of (b ∷ bs)) i
-    chosen true e more r = inl (eqb-true b.number i e)
-    chosen false e more r = inr (more r)
-
 -- ---- numbers that no name has
 
 origin_other : (bs : List Bound) (i : ℕ) → ((j : ℕ) → Among (numbers_of bs) j → i ≢ j) → (o : Origin) → IsOfNumber bs o → IsElsewhere i o
@@ -85,6 +77,8 @@ origin_other bs i h (argument j) n = tt
 origin_other bs i h own_root n = tt
 origin_other bs i h (own_as j) n = h j n
 origin_other bs i h (part o) n = origin_other bs i h o n
+origin_other bs i h (child_at s c o) n = origin_other bs i h o n
+origin_other bs i h (held_at s o) n = origin_other bs i h o n
 
 numbered_other : (bs : List Bound) (i : ℕ) → ((j : ℕ) → Among (numbers_of bs) j → i ≢ j) → (s : Shape) → IsNumbered bs s → IsOther i s
 numbered_other bs i h anything n = tt
@@ -136,16 +130,16 @@ own_any x sp i _ (is_region _ _ r q) = is_region (Some sp) own_root r
 own_any x sp i _ (is_number _ z h) = absurd h
 
 pub free_number : (t : _) (way : Way) (tree : Tree) (params : ℕ) (s : Scope) (form : Form) (ss : List Shape) (k : Kind) (sp : ℕ) (args : List Reach) →
-    Ground t way tree params s → ToldForm way tree s form → Each (IsNumbered s.names) ss → IsFree way params s ss k sp args
-free_number t all_made tree params s form ss k sp args g told h = record {
+    BeginsWholly way s.next → Ground t way tree params s → ToldForm way tree s form → Each (IsNumbered s.names) ss → IsFree way params s ss k sp args
+free_number t all_made tree params s form ss k sp args wholly g told h = record {
   number = above s.names;
   others = each_other s.names (above s.names) (λ j a e. let l = above_each s.names j a in omega (arith, l, e)) ss h;
   becomes = λ x v i. own_any x sp (above s.names) v i;
   named = λ b e. tt;
 }
-free_number t (by_rules task) tree params s form ss k sp args g told h =
-    let same : origin_in (by_rules task) params (term.Name s.next) ≡ own_as s.next =
-    ap (λ b. cond b (own_as s.next) (argument s.next)) (le-leb params s.next g.next) in record {
+free_number t (by_rules tops task) tree params s form ss k sp args wholly g told h =
+    let same : origin_in (by_rules tops task) params (term.Name s.next) ≡ own_as s.next =
+    ap (λ b. cond b (origin_behind params s.next (tops task s.next)) (argument s.next)) (le-leb params s.next g.next) ∙ ap (origin_behind params s.next) wholly in record {
       number = s.next;
       others = each_other s.names s.next (λ j a e. let l = falls_below s.next s.names told.1.scope.numbers j a in omega (arith, l, e)) ss h;
       becomes = λ x v i. subst (λ o. Is x (region (Some sp) o) v) (sym same) i;

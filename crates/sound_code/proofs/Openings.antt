@@ -103,7 +103,7 @@ module _ (forms : Forms) (plain : forms.takes ≡ None) (unkept : forms.keeps �
   entry_there = named_there tree (entry_name tree) _ p.start
 
   entry_marks : HasMarks tree all_made (entry_place tree) entry
-  entry_marks = treat tree all_made forms (entry_place tree) entry entry_there (hands_none plain) tt tt p.typed (λ q. absurd (false≢true (sym unkept ∙ q))) (λ q. tt) (λ q. tt) (not_kept forms.keeps _ unkept) p.small
+  entry_marks = treat tree all_made forms (entry_place tree) entry entry_there (hands_none plain unkept (λ i. tt)) tt tt p.typed (λ q. absurd (false≢true (sym unkept ∙ q))) (λ q. tt) (λ q. tt) (not_kept forms.keeps _ unkept) p.small
 
   -- the entry task alone has marks
   abbrev entry_alone : ℕ → List Mark
@@ -172,7 +172,7 @@ module _ (tree : Tree) (way : Way) (marks_at : (k : ℕ) (t : TaskTree) → slic
 
 module _ (tree : Tree) (typed : AreTypedTasks tree) where
   made_at : (k : ℕ) (t : TaskTree) → slice_get (tasks_of tree) k ≡ Some t → HasMarks tree all_made k t
-  made_at k t there = let h = typed k t there in treat tree all_made call_forms k t there (hands_none refl) tt tt h.typed (λ q. absurd (false≢true q)) (λ q. tt) (λ q. tt) (not_kept false _ refl) h.small
+  made_at k t there = let h = typed k t there in treat tree all_made call_forms k t there (hands_none refl refl (λ i. tt)) tt tt h.typed (λ q. absurd (false≢true q)) (λ q. tt) (λ q. tt) (not_kept false _ refl) h.small
 
   abbrev marks : ℕ → List Mark
   marks = all tree all_made made_at

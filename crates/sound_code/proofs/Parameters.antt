@@ -17,7 +17,7 @@ use Rattle.code_laws.proofs.Openings.{types_cons, types_in}
 use Rattle.fit_rules.specs.Shapes.{anything, argument, Each, numeric_index, numeric_integer, numeric_pointer, numeric_truth, own_as, region}
 use Rattle.fit_rules.specs.Sound.{Settled, settled_number, settled_partition, settled_region, settled_space}
 use Rattle.sound_code.specs.Named.{IsNumbered}
-use Rattle.sound_code.specs.Ways.{Way, all_made, by_rules, shape_in}
+use Rattle.sound_code.specs.Ways.{none_begun, origin_behind, Tops, Way, all_made, by_rules, shape_in}
 use Rattle.sound_code.proofs.Calling.{types_many}
 use Rattle.sound_code.proofs.Interpreting.{not_below}
 
@@ -89,7 +89,7 @@ module _ (way : Way) (n : ℕ) where
     where
       by : (way : Way) → IsNumbered bs (shape_in way n (region_type c sp args (term.Name i)))
       by all_made = tt
-      by (by_rules task) = subst (λ b. IsNumbered bs (region (Some sp) (cond b (own_as i) (argument i)))) (sym (not_below n i l)) tt
+      by (by_rules tops task) = subst (λ b. IsNumbered bs (region (Some sp) (cond b (origin_behind n i (tops task i)) (argument i)))) (sym (not_below n i l)) tt
   low_numbered bs (region_type c sp args (term.Child p q)) l = absurd l
   low_numbered bs (integer_type w) l = tt
   low_numbered bs truth_type l = tt
@@ -125,3 +125,24 @@ module _ (way : Way) (n : ℕ) where
   pub params_settled : (tree : Tree) (u : TaskTree) → Each Settled (map (shape_in way n) (param_types tree u))
   params_settled tree u = all_settled 0 (param_types tree u)
       (names_at (λ i t. Settled (shape_in way n t)) tree u.params (type_settled tree (among_params u.params)) 0 u.params)
+
+-- whatever is told of regions that began as parts, since parameters' did not
+low_same : (tops : Tops) (task : TaskTree) (n : ℕ) (t : StaticType) → IsLow n t → shape_in (by_rules none_begun task) n t ≡ shape_in (by_rules tops task) n t
+low_same tops task n (region_type c sp args (term.Name i)) l =
+    ap (λ b. region (Some sp) (cond b (own_as i) (argument i))) (not_below n i l)
+    ∙ sym (ap (λ b. region (Some sp) (cond b (origin_behind n i (tops task i)) (argument i))) (not_below n i l))
+low_same tops task n (region_type c sp args (term.Child p q)) l = absurd l
+low_same tops task n (integer_type w) l = refl
+low_same tops task n truth_type l = refl
+low_same tops task n (index_type c) l = refl
+low_same tops task n (pointer_type c sp args rs) l = refl
+low_same tops task n (ispace_type c) l = refl
+low_same tops task n (partition_type d r p) l = refl
+low_same tops task n no_type l = refl
+low_same tops task n unknown_type l = refl
+
+pub lows_same : (tops : Tops) (task : TaskTree) (n : ℕ) (ts : List StaticType) → Each (IsLow n) ts →
+    map (shape_in (by_rules none_begun task) n) ts ≡ map (shape_in (by_rules tops task) n) ts
+lows_same tops task n [] l = refl
+lows_same tops task n (t ∷ ts) l = ap (λ s. s ∷ map (shape_in (by_rules none_begun task) n) ts) (low_same tops task n t l.0)
+    ∙ ap (λ ss. shape_in (by_rules tops task) n t ∷ ss) (lows_same tops task n ts l.1)

@@ -47,7 +47,7 @@ region_named way params m s _ (a_region_type k sp args r) e = record { origin = 
 pub placed_at : (t : TaskCode) (way : Way) (tree : Tree) (params : ℕ) (s : Scope) (n : Name) → Ground t way tree params s → is_bound s.names n ≡ true →
     InPlace way params (bound_to s.names n).place (bound_to s.names n).static_type
 placed_at t all_made tree params s n g h = tt
-placed_at t (by_rules task) tree params s n g h = among s.names g.placed h
+placed_at t (by_rules tops task) tree params s n g h = among s.names g.placed h
   where
     among : (bs : List Bound) → Each (IsPlaced params) bs → is_bound bs n ≡ true → OfType params (bound_to bs n).place (bound_to bs n).static_type
     among [] a h = absurd (false≢true h)

@@ -15,11 +15,12 @@ use Rattle.machine_terms.specs.declared.value.Value.TheVariants as value
 use Rattle.machine_terms.specs.Jumps.{point_at, size_of, taken}
 use Rattle.machine_terms.specs.Pointers.{region_in}
 use Rattle.code_rules.specs.Pieces.{Piece, op, ◌⨟◌, rounds}
-use Rattle.fit_rules.specs.Shapes.{Each, index, NumberIs, Origin, pointer, region, Shape, space, World, Is, is_number, is_region, is_space}
-use Rattle.fit_rules.specs.Marks.{Stores, AtMost, counts, Fact, HoldsTop, Mark, size_in, stacked, the_colour, top_colour, topped}
+use Rattle.fit_rules.specs.Shapes.{Each, index, IsPlain, IsPlainOrigin, NumberIs, Origin, pointer, region, Shape, space, World, Is, is_number, is_region, is_space}
+use Rattle.fit_rules.specs.Marks.{around, Stores, AtMost, counts, Fact, HoldsTop, Mark, size_in, stacked, the_colour, top_colour, topped}
 use Rattle.fit_rules.specs.Fits.{Program}
 use Rattle.fit_rules.specs.Sound.{RoundPoint}
 use Rattle.marked_code.specs.Marked.{leads_coloured, leads_storing, typed_op, typed_points}
+use Rattle.fit_laws.proofs.Held.{none_held, plain_held}
 use Rattle.fit_laws.proofs.Keeping.{are_first, are_others, get_other, get_set, set_mark}
 use Rattle.sound_code.specs.Ways.{Way}
 use Rattle.sound_code.proofs.Steady.{steady_below}
@@ -41,6 +42,7 @@ pub record HasPoint (V : Shape) (ptr : Bool) (d : Value) (i p : ℕ) : Type 0 wh
 pub record IsDomain (D V : Shape) (ptr : Bool) : Type 0 where
   pub point : (x : World) (d : Value) (i p : ℕ) → Is x D d → point_at d i ≡ Some p → HasPoint V ptr d i p
   pub sized : (x : World) (d : Value) → Is x D d → (n : ℕ) × (size_of d ≡ Some n)
+  pub plain : IsPlain D
 
 -- ---- index spaces
 
@@ -60,7 +62,7 @@ space_sized x _ (is_space n h) = (n, refl)
 space_sized x _ (is_number _ z h) = absurd h
 
 pub spaces : IsDomain space index false
-spaces = record { point = space_point; sized = space_sized }
+spaces = record { point = space_point; sized = space_sized; plain = tt }
 
 -- ---- regions
 
@@ -94,8 +96,8 @@ region_sized : (sp : Option ℕ) (o : Origin) (x : World) (d : Value) → Is x (
 region_sized sp o x _ (is_region _ _ r h) = (length r.points, refl)
 region_sized sp o x _ (is_number _ z h) = absurd h
 
-pub regions : (sp : Option ℕ) (o : Origin) → IsDomain (region sp o) (pointer 1) true
-regions sp o = record { point = region_point sp o; sized = region_sized sp o }
+pub regions : (sp : Option ℕ) (o : Origin) → IsPlainOrigin o → IsDomain (region sp o) (pointer 1) true
+regions sp o plain = record { point = region_point sp o; sized = region_sized sp o; plain = plain }
 
 -- ---- loops
 
@@ -152,7 +154,7 @@ module _ (g : Program) (t : TaskCode) (k : ℕ) (way : Way) (params : ℕ) (bs :
       record {
         slots = set_at x _ _ c index _ (set_at x head.slots vs v V _ s.slots (is_number V (taken ptr p) h.fits))
             (is_number index z (omega (arith, ints, h.low, h.small)));
-        stack = s.stack;
+        stack = none_held _ _ st s.stack;
         facts = (
           subst (λ y. AtMost y (slice_get (slice_set ws c (value.Number z)) c)) (sym at_d)
               (subst (λ y. AtMost (Some h.size) y) (sym at_c) (suc i, omega (arith, ints), omega (arith, h.low))),
@@ -172,7 +174,7 @@ module _ (g : Program) (t : TaskCode) (k : ℕ) (way : Way) (params : ℕ) (bs :
       let high = slot_high params (length bs) r.low in
       let long = long_head way params bs m r D index V counting hi in
       let o = set_mark m d D [] in
-      both g t k (storing g t k m d D D [] line (behind_kept way params bs m d r (omega arith)) (omega (arith, high, ep)) hi (λ x y h. h))
+      both g t k (storing g t k m d D D [] line (behind_kept way params bs m d r (omega arith)) (omega (arith, high, ep)) (omega (arith, r.fixed)) dom.plain hi (λ x y h. h))
       (both g t k (record {
         marks = _;
         is = typed_op o (topped o (index ∷ []) (top_colour (the_colour (pos 0)))) (instr.Num (pos 0)) line
@@ -188,7 +190,7 @@ module _ (g : Program) (t : TaskCode) (k : ℕ) (way : Way) (params : ℕ) (bs :
         marks = _;
         is = typed_points (stacked head []) round d c v ptr line body _ (inl refl) (omega (arith, hi, long)) rounds_on
             (long_round way params bs m r D index V counting hi ∙ sym long) f.is;
-      }) (narrow_into t.params head m [] (head_narrow way params bs m r D index V counting hi) (λ vs h. h.1)) (sym long))))
+      }) (narrow_into t.params head m (head_narrow way params bs m r D index V counting hi) (λ vs h. h.1)) (sym long))))
     where
       begun : Stores t.params (topped (set_mark m d D []) (index ∷ []) (top_colour (the_colour (pos 0)))) c head
       begun x vs st y q =
@@ -197,8 +199,8 @@ module _ (g : Program) (t : TaskCode) (k : ℕ) (way : Way) (params : ℕ) (bs :
           let u = value_at x o.slots vs d D q.slots (get_set m.slots d D hi) in
           let long : length vs ≡ length m.slots = as_long x o.slots vs q.slots ∙ length-set m.slots d D in
           record {
-            slots = set_at x o.slots vs c index y q.slots (are_first x index [] y st q.stack);
-            stack = are_others x index [] y st q.stack;
+            slots = set_at x o.slots vs c index y q.slots (plain_held (around x m vs) x.held index y tt (are_first (around x m vs) index [] y st q.stack));
+            stack = none_held _ _ st (are_others (around x m vs) index [] y st q.stack);
             facts = (
               subst (λ z. AtMost (size_in (slice_get (slice_set vs c y) d)) z) (sym (get_set vs c y (omega (arith, hi, long))))
                   (subst (λ z. AtMost z (Some y)) (sym (ap size_in (get_other vs c d y (λ e. omega (arith, e)) ∙ u.at)))

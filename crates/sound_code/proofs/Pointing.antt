@@ -109,7 +109,7 @@ module _ (g : Program) (t : TaskCode) (k slots : ℕ) (forms : Forms) (way : Way
   pointer_loaded : (u : StaticType) (place : ℕ) (us : List Shape) → IsPointer u → slice_get m.slots (slot w place) ≡ Some (shape_of u) →
       Goes us (one w (instr.Load (slot w place))) (shape_of u ∷ us)
   pointer_loaded _ place us (a_pointer_type c sp args rs names) there =
-      does g t k (stacked m us) (instr.Load (slot w place)) w.line _ (does_load (slot w place) _ us there (settled_number _ (numeric_pointer (length rs))))
+      does g t k (stacked m us) (instr.Load (slot w place)) w.line _ (does_load (slot w place) _ us there (settled_number _ (numeric_pointer (length rs))) tt)
 
   -- what a name's pointer goes to, and what stands behind that
   pub behind_marked : (d : ℕ) (x f : Name) (rest : Steps) (us vs : List Shape) → forms.keeps ≡ true → IsBehind w x f (field_behind w x f) →
@@ -119,12 +119,12 @@ module _ (g : Program) (t : TaskCode) (k slots : ℕ) (forms : Forms) (way : Way
       let r = ruled g t k slots forms way w m asked q in
       let u = (bound w x).static_type in
       let there = pointer_aims w.scope.names (bound w x).number u h.pointer (scoped_named w.scope.names w.scope.names x r.scoped h.named) in
-      let part = part_named (by_rules r.task) w.params m.slots w.scope.next w.scope.names x h.numbers r.beside h.named in
+      let part = part_named (by_rules r.tops r.task) w.params m.slots w.scope.next w.scope.names x h.numbers r.beside h.named in
       let may = may_read_through w r.task x f h.pointer h.certain h.field (subst (λ v. Told v w.tree w.scope (access_expr x (field_step f no_step))) r.by told).1 in
-      reads_through g t k r.task w m r.known f (field_behind w x f) u (bound w x).place (own_slot w u (bound w x).place) rest
+      reads_through g t k r.tops r.task w m r.known f (field_behind w x f) u (bound w x).place (own_slot w u (bound w x).place) rest
       (steps_code w d (field_behind w x f) 0 rest) us vs h.pointer
-      (named_at (by_rules r.task) w.params m.slots w.scope.names x r.named h.named ∙ ap Some (pointer_named (by_rules r.task) w.params u h.pointer)) h.keeps
-      (λ vs. allowed_through w r.task g t m asked.params r.known r.kept r.facts r.named r.scoped u
+      (named_at (by_rules r.tops r.task) w.params m.slots w.scope.names x r.named h.named ∙ ap Some (pointer_named (by_rules r.tops r.task) w.params u h.pointer)) h.keeps
+      (λ vs. allowed_through w r.task r.tops g t m asked.params r.known r.kept r.facts r.named r.scoped u
       (field_place w.tree (space_in u) f) (bound w x).place Read vs h.pointer there part h.certain may h.field) more
 
   -- a field that it goes to is assigned, and reduced
@@ -136,12 +136,12 @@ module _ (g : Program) (t : TaskCode) (k slots : ℕ) (forms : Forms) (way : Way
       let u = (bound w x).static_type in
       let told_here = subst (λ v. ToldForm v w.tree w.scope (assign_form x (field_step f no_step) how.Set y)) r.by told in
       let there = pointer_aims w.scope.names (bound w x).number u h.pointer (scoped_named w.scope.names w.scope.names x r.scoped h.named) in
-      let part = part_named (by_rules r.task) w.params m.slots w.scope.next w.scope.names x h.numbers r.beside h.named in
+      let part = part_named (by_rules r.tops r.task) w.params m.slots w.scope.next w.scope.names x h.numbers r.beside h.named in
       let may = may_write_through w r.task x f y h.pointer h.certain h.field told_here.1.form in
-      let named = named_at (by_rules r.task) w.params m.slots w.scope.names x r.named h.named ∙ ap Some (pointer_named (by_rules r.task) w.params u h.pointer) in
+      let named = named_at (by_rules r.tops r.task) w.params m.slots w.scope.names x r.named h.named ∙ ap Some (pointer_named (by_rules r.tops r.task) w.params u h.pointer) in
       both g t k (both g t k (pointer_loaded u (bound w x).place (shape_of (field_behind w x f) ∷ []) h.pointer named) (nothing_done g t k _))
-      (writes_through g t k r.task w m r.known f (field_behind w x f) u (own_slot w u (bound w x).place) [] h.pointer h.keeps
-      (λ vs. allowed_through w r.task g t m asked.params r.known r.kept r.facts r.named r.scoped u
+      (writes_through g t k r.tops r.task w m r.known f (field_behind w x f) u (own_slot w u (bound w x).place) [] h.pointer h.keeps
+      (λ vs. allowed_through w r.task r.tops g t m asked.params r.known r.kept r.facts r.named r.scoped u
       (field_place w.tree (space_in u) f) (bound w x).place Write vs h.pointer there part h.certain may h.field))
 
   pub reduce_behind_marked : (x f : Name) (o : Op) (y : Expression) (a : Shape) → forms.keeps ≡ true → Numeric a → IsInteger (field_behind w x f) →
@@ -152,10 +152,10 @@ module _ (g : Program) (t : TaskCode) (k slots : ℕ) (forms : Forms) (way : Way
       let u = (bound w x).static_type in
       let told_here = subst (λ v. ToldForm v w.tree w.scope (assign_form x (field_step f no_step) (how.Reduce o) y)) r.by told in
       let there = pointer_aims w.scope.names (bound w x).number u h.pointer (scoped_named w.scope.names w.scope.names x r.scoped h.named) in
-      let part = part_named (by_rules r.task) w.params m.slots w.scope.next w.scope.names x h.numbers r.beside h.named in
+      let part = part_named (by_rules r.tops r.task) w.params m.slots w.scope.next w.scope.names x h.numbers r.beside h.named in
       let may = may_reduce_through w r.task x f o y h.pointer h.certain h.field told_here.1.form in
-      let named = named_at (by_rules r.task) w.params m.slots w.scope.names x r.named h.named ∙ ap Some (pointer_named (by_rules r.task) w.params u h.pointer) in
+      let named = named_at (by_rules r.tops r.task) w.params m.slots w.scope.names x r.named h.named ∙ ap Some (pointer_named (by_rules r.tops r.task) w.params u h.pointer) in
       both g t k (both g t k (pointer_loaded u (bound w x).place (a ∷ []) h.pointer named) (nothing_done g t k _))
-      (reduces_through g t k r.task w m r.known f (field_behind w x f) u (own_slot w u (bound w x).place) o a [] h.pointer io na h.keeps
-      (λ vs. allowed_through w r.task g t m asked.params r.known r.kept r.facts r.named r.scoped u
+      (reduces_through g t k r.tops r.task w m r.known f (field_behind w x f) u (own_slot w u (bound w x).place) o a [] h.pointer io na h.keeps
+      (λ vs. allowed_through w r.task r.tops g t m asked.params r.known r.kept r.facts r.named r.scoped u
       (field_place w.tree (space_in u) f) (bound w x).place (Reduce o) vs h.pointer there part h.certain may h.field))

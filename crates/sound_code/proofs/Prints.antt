@@ -60,11 +60,11 @@ module _ (g : Program) (t : TaskCode) (k slots : ℕ) (have : HasSlots t slots) 
       (both g t k (nothing_done g t k _) (numbers_marked es (shape_of (typed w e) ∷ us) h.2 (asks_second _ _ _ simple) parts.1 _ st.1.1))
 
   pub print_marked : (alias : Option Name) (format : List ℕ) (es : Expressions) → AreNumbers forms w es → Asks forms.keeps (are_whole_expressions true w es) → ToldArgs way w.tree w.scope es → numbers_in format ≡ Some (count es) →
-      (pc : ℕ) → Stands t.body pc (form_code w (print_form alias format es)) → Followed g t k forms.keeps way w.params w.scope.names m (form_code w (print_form alias format es))
+      (pc : ℕ) → Stands t.body pc (form_code w (print_form alias format es)) → Followed g t k forms.keeps way w.tree w.params w.scope.names m (form_code w (print_form alias format es))
   print_marked alias format es h simple told e pc st =
       let many = printed_count format (count es) e in
       let same : length (shapes es) ≡ count_numbers (parts_of [] format) = shapes_long es ∙ sym many in
-      unchanged g t k forms.keeps way _ _ m _ asked.ready asked.scoped asked.cut (both g t k (numbers_marked es [] h simple told pc st.0)
+      unchanged g t k forms.keeps way w.tree _ _ m _ asked.ready asked.scoped asked.cut (both g t k (numbers_marked es [] h simple told pc st.0)
       (does g t k (stacked m (onto (shapes es) [])) (instr.Print (parts_of [] format)) w.line []
       (does_print (parts_of [] format) _ (shapes es) [] (subst (λ y. Takes y (onto (shapes es) []) [] (shapes es) []) same
       (takes_pushed (shapes es) [] (shapes_numeric es h))) (shapes_numeric es h) same)))

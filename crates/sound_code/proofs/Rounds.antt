@@ -1,6 +1,6 @@
 -- The marks of a loop that counts: at its head the counter and the limit or the domain stand beside the slot of
 -- the variable, and in its body the variable has a value too.
-use Rattle.std.proofs.Common.{◌≡◌, inl, inr, ℕ, suc, ◌<◌, ◌+◌, List, [], ◌∷◌, Some, sym, ap, ◌∙◌, arith}
+use Rattle.std.proofs.Common.{◌≡◌, inl, inr, ℕ, suc, ◌<◌, ◌+◌, List, [], ◌∷◌, Some, refl, sym, ap, ◌∙◌, arith}
 use Rattle.std.specs.Prelude.{slice_get, slice_set, length}
 use Rattle.std.proofs.lemmas.List.{length-set}
 use Rattle.regent_tree.specs.declared.typing.Bound.{Bound}
@@ -26,10 +26,16 @@ module _ (way : Way) (params : ℕ) (bs : List Bound) (m : Mark) (r : Ready way 
   be = va + 2
 
   abbrev pub head_mark : Mark
-  head_mark = record { slots = slice_set (slice_set m.slots be B) co C; facts = fs; stack = []; top = [] }
+  head_mark = record { slots = slice_set (slice_set m.slots be B) co C; facts = fs; stack = []; top = []; fixed = m.fixed }
 
   abbrev pub round_mark : Mark
-  round_mark = record { slots = slice_set (slice_set head_mark.slots va V) co C; facts = fs; stack = []; top = [] }
+  round_mark = record {
+    slots = slice_set (slice_set head_mark.slots va V) co C;
+    facts = fs;
+    stack = [];
+    top = [];
+    fixed = slot_at params (suc (length bs));
+  }
 
   module _ (hi : be < length m.slots) where
     pub long_be : length (slice_set m.slots be B) ≡ length m.slots
@@ -88,6 +94,7 @@ module _ (way : Way) (params : ℕ) (bs : List Bound) (m : Mark) (r : Ready way 
           (numbered_set (b ∷ bs) (slice_set m.slots be B) co C (numbered_set (b ∷ bs) m.slots be B (each_numbered bs b m.slots r.numbered) nb) nc) nv) nc;
       facts = counts;
       low = omega (arith, r.low);
+      fixed = refl;
     }
 
     pub head_narrow : Narrower head_mark.slots m.slots

@@ -1,5 +1,5 @@
 -- The code of tasks of an accepted program is sound by the rules.
-use Rattle.std.proofs.Common.{◌≡◌, ℕ, zero, suc, ◌≤◌, ◌^◌, ℤ, List, [], ◌∷◌, ◌++◌, ◌∙◌, ap, Bool, None, Some, false, true, inl, inr, refl, subst}
+use Rattle.std.proofs.Common.{◌≡◌, ℕ, zero, suc, ◌≤◌, ◌^◌, ℤ, List, [], ◌∷◌, ◌++◌, ◌∙◌, ap, None, Some, false, true, inl, inr, refl, sym, subst}
 use Rattle.std.specs.List.{list_all}
 use Rattle.std.proofs.lemmas.Bool.{and_parts, false≢true}
 use Rattle.std.proofs.lemmas.Option.{none-some, same_Some}
@@ -40,83 +40,101 @@ use Rattle.sound_code.proofs.Cuts.{Cut}
 use Rattle.sound_code.proofs.CutParams.{opening_cut}
 use Rattle.sound_code.proofs.Wholes.{Asks, not_kept}
 use Rattle.sound_code.proofs.Asked.{Hands, hands_none, hands_taken}
-use Rattle.sound_code.specs.Ways.{Way, by_rules, opening_facts}
+use Rattle.sound_code.specs.Ways.{none_begun, Tops, Way, by_rules, opening_facts}
+use Rattle.sound_code.proofs.Beginning.{are_tops, no_tops, tops_of}
+use Rattle.sound_code.proofs.Parameters.{lows_same, params_low}
+use Rattle.fit_rules.specs.Shapes.{Are}
+use Rattle.fit_rules.specs.Ends.{called}
 use Rattle.sound_code.proofs.Accepted.{begins_kept, body_without_breach, stands_in}
 use Rattle.sound_code.proofs.Behind.{after_block_ground}
-use Rattle.sound_code.proofs.Grounds.{IsTold, tells_apart, tells_made, tells_part, tells_within}
+use Rattle.sound_code.proofs.Grounds.{IsTold, tells_apart, tells_begun, tells_made, tells_part, tells_within}
 use Rattle.sound_code.proofs.Entries.{named_there}
 use Rattle.sound_code.proofs.Openings.{all, all_marked, all_sound, begins_well, opened}
 use Rattle.sound_code.proofs.InOrder.{never_breaks, run_keeps_all, sound_code}
-use Rattle.regent_tree.specs.Typing.{result_type}
+use Rattle.regent_tree.specs.Typing.{param_types, result_type}
 use Rattle.code_laws.specs.Programs.{IsGiven}
 use Rattle.fit_rules.specs.Fits.{Program}
 use Rattle.sound_code.proofs.Tasks.{bare, HasMarks, marks_of, treat}
 
-abbrev way : Way
-way = by_rules no_task
+abbrev way : Tops → Way
+way tops = by_rules tops no_task
 
-module _ (tree : Tree) (given : (k : ℕ) (t : TaskTree) → slice_get (tasks_of tree) k ≡ Some t → IsGiven (result_type tree t.result))
-    (marks_at : (k : ℕ) (t : TaskTree) → slice_get (tasks_of tree) k ≡ Some t → HasMarks tree way k t) where
+module _ (tree : Tree) (tops : Tops) (given : (k : ℕ) (t : TaskTree) → slice_get (tasks_of tree) k ≡ Some t → IsGiven (result_type tree t.result))
+    (marks_at : (k : ℕ) (t : TaskTree) → slice_get (tasks_of tree) k ≡ Some t → HasMarks tree (way tops) k t) where
   abbrev marks : ℕ → List Mark
-  marks = all tree way marks_at
+  marks = all tree (way tops) marks_at
 
   abbrev g : Program
-  g = remarked (bare tree way) (marks_of tree way marks)
+  g = remarked (bare tree (way tops)) (marks_of tree (way tops) marks)
 
   well : (forms : Forms) → BeginsWell forms tree g
   well forms inputs turns p few =
-      begins_well tree way marks (all_marked tree way marks_at) forms (named_there tree (entry_name tree) _ p.start) inputs turns p few
+      begins_well tree (way tops) marks (all_marked tree (way tops) marks_at) forms (named_there tree (entry_name tree) _ p.start) inputs turns p few
 
   pub tasks_keep_rules : TasksKeepRules tree
   tasks_keep_rules = record {
     program = g;
     code = refl;
-    sound = all_sound tree way marks_at;
-    all = sound_code tree g refl given (λ k. refl) (all_sound tree way marks_at);
-    segments = λ k t there. never_breaks _ _ _ (all_sound tree way marks_at k t there);
-    opens = opened tree way marks (all_marked tree way marks_at);
+    sound = all_sound tree (way tops) marks_at;
+    all = sound_code tree g refl given (λ k. refl) (all_sound tree (way tops) marks_at);
+    segments = λ k t there. never_breaks _ _ _ (all_sound tree (way tops) marks_at k t there);
+    opens = λ k t there x args turns depth few are told. opened tree (way tops) marks (all_marked tree (way tops) marks_at) k t there x args turns depth few
+        (subst (λ ss. Are (called x args) ss args) (lows_same tops t (length t.params) (param_types tree t) (params_low tree t)) are) told;
     begins = well;
-    runs = λ forms. run_keeps_all tree g refl given (λ k. refl) (all_sound tree way marks_at) forms (well forms);
+    runs = λ forms. run_keeps_all tree g refl given (λ k. refl) (all_sound tree (way tops) marks_at) forms (well forms);
   }
 
 -- what is told by such facts tells of no region that it began as a part
-tells_no_cut : (params : ℕ) (ks : List Fact) (i : ℕ) (k : Known) → IsTold params ks k → cut_told i k ≡ None
-tells_no_cut params ks i _ (tells_within a b la lb h) = refl
-tells_no_cut params ks i _ (tells_apart a b la lb h) = refl
-tells_no_cut params ks i _ (tells_part p r d) = refl
-tells_no_cut params ks i _ (tells_made s l) = refl
+tells_no_cut : (t : TaskTree) (params : ℕ) (ks : List Fact) (i : ℕ) (k : Known) → IsTold params (none_begun t) ks k → cut_told i k ≡ None
+tells_no_cut t params ks i _ (tells_within a b la lb h) = refl
+tells_no_cut t params ks i _ (tells_apart a b la lb h) = refl
+tells_no_cut t params ks i _ (tells_part p r d) = refl
+tells_no_cut t params ks i _ (tells_made s l e) = refl
+tells_no_cut t params ks i _ (tells_begun j p q c l e) = absurd (none-some q e)
 
-no_cut_told : (params : ℕ) (ks : List Fact) (i : ℕ) (known : List Known) → ((k : Known) → Has known k → IsTold params ks k) → first_told (cut_told i) known ≡ None
-no_cut_told params ks i [] h = refl
-no_cut_told params ks i (k ∷ known) h =
-    ap (λ o. or_other o (first_told (cut_told i) known)) (tells_no_cut params ks i k (h k (inl refl))) ∙ no_cut_told params ks i known (λ j x. h j (inr x))
+no_cut_told : (t : TaskTree) (params : ℕ) (ks : List Fact) (i : ℕ) (known : List Known) → ((k : Known) → Has known k → IsTold params (none_begun t) ks k) → first_told (cut_told i) known ≡ None
+no_cut_told t params ks i [] h = refl
+no_cut_told t params ks i (k ∷ known) h =
+    ap (λ o. or_other o (first_told (cut_told i) known)) (tells_no_cut t params ks i k (h k (inl refl))) ∙ no_cut_told t params ks i known (λ j x. h j (inr x))
 
 module _ (tree : Tree) (none : breaches tree ≡ []) where
   -- a task of which nothing is told, in these forms
-  told_marks : (forms : Forms) (k : ℕ) (t : TaskTree) → slice_get (tasks_of tree) k ≡ Some t → Hands forms (task_code tree t) (by_rules t) tree →
-      IsTypedBlock forms (place_of tree t) t.body → Scoped forms.keeps (by_rules t) (scope_of tree t).names →
-      Cut forms.keeps (by_rules t) (length t.params) (opening_facts (by_rules t) tree t) (scope_of tree t).names → Asks forms.keeps (is_whole_task true tree t) →
-      length (lines (body_piece tree t) 0) ≤ 2 ^ 32 → HasMarks tree way k t
-  told_marks forms k t there hands typed scoped cut whole small =
-      treat tree way forms k t there hands (begins_kept tree t (body_told tree t none (stands_in tree k t there)))
-      (body_without_breach tree none k t there) typed (λ q. is_by_rules t) scoped cut whole small
+  told_marks : (tops : Tops) (forms : Forms) (k : ℕ) (t : TaskTree) → slice_get (tasks_of tree) k ≡ Some t →
+      ((i : ℕ) (q : ℕ × ℕ) → tops t i ≡ Some q → q.1 ≤ i) → Hands forms (task_code tree t) (by_rules tops t) tree →
+      IsTypedBlock forms (place_of tree t) t.body → Scoped forms.keeps (by_rules tops t) (scope_of tree t).names →
+      Cut forms.keeps (by_rules tops t) tree (length t.params) (opening_facts (by_rules tops t) tree t) (scope_of tree t).names → Asks forms.keeps (is_whole_task true tree t) →
+      length (lines (body_piece tree t) 0) ≤ 2 ^ 32 → HasMarks tree (way tops) k t
+  told_marks tops forms k t there falls hands typed scoped cut whole small =
+      treat tree (way tops) forms k t there hands (begins_kept tree t (body_told tree t none (stands_in tree k t there)) tops falls)
+      (body_without_breach tree none k t there) typed (λ q. is_by_rules tops t) scoped cut whole small
 
-  -- none of the regions of such a task began as a part
-  none_above : (forms : Forms) (k : ℕ) (t : TaskTree) → slice_get (tasks_of tree) k ≡ Some t → IsTypedBlock forms (place_of tree t) t.body →
-      Asks forms.keeps (is_whole_task true tree t) → (i : ℕ) → (taking_of tree t).above i ≡ None
-  none_above forms k t there typed whole i =
-      let h = after_block_ground forms (task_code tree t) (by_rules t) (place_of tree t) t.body typed whole
-      (begins_kept tree t (body_told tree t none (stands_in tree k t there))) in
-      ap (whole_of (told_in tree t)) (no_cut_told (length t.params) (opening_facts (by_rules t) tree t) i (told_in tree t) h.known)
+  -- where no pointers are kept, none of the regions of such a task began as a part
+  none_above : (forms : Forms) → forms.keeps ≡ false → (k : ℕ) (t : TaskTree) → slice_get (tasks_of tree) k ≡ Some t → IsTypedBlock forms (place_of tree t) t.body →
+      (i : ℕ) → (taking_of tree t).above i ≡ None
+  none_above forms unkept k t there typed i =
+      let h = after_block_ground forms (task_code tree t) (by_rules none_begun t) (place_of tree t) t.body typed (not_kept forms.keeps _ unkept)
+      (λ i b. refl, λ keeps i r b l. absurd (false≢true (sym unkept ∙ keeps)))
+      (begins_kept tree t (body_told tree t none (stands_in tree k t there)) none_begun (λ i q e. absurd (none-some q e))) in
+      ap (whole_of (told_in tree t)) (no_cut_told t (length t.params) (opening_facts (by_rules none_begun t) tree t) i (told_in tree t) h.known)
 
-  -- where tasks hand regions over, and keep pointers or not
-  handing : (keeping : Bool) → AreTypedBy true keeping tree → (keeping ≡ true → is_whole_program true tree ≡ true) →
-      (keeping ≡ true → (k : ℕ) (t : TaskTree) → slice_get (tasks_of tree) k ≡ Some t → AllGoToParams (scope_of tree t).names) → TasksKeepRules tree
-  handing keeping typed whole goals = tasks_keep_rules tree (λ k t there. (typed k t there).given) (λ k t there.
+  -- where tasks hand regions over and keep no pointers
+  plain_handing : AreTypedBy true false tree → TasksKeepRules tree
+  plain_handing typed = tasks_keep_rules tree none_begun (λ k t there. (typed k t there).given) (λ k t there.
       let h = typed k t there in
-      told_marks (forms_by true keeping tree t) k t there
-      (hands_taken t (taking_of tree t) refl refl refl refl refl (none_above (forms_by true keeping tree t) k t there h.typed (λ q. each_task (tasks_of tree) k (whole q) there)))
-      h.typed (λ q. opening_scoped tree t (goals q k t there)) (λ q. opening_cut tree t (goals q k t there)) (λ q. each_task (tasks_of tree) k (whole q) there) h.small)
+      let forms = forms_by true false tree t in
+      told_marks none_begun forms k t there (λ i q e. absurd (none-some q e))
+      (hands_taken none_begun t (taking_of tree t) refl refl refl refl refl (no_tops (taking_of tree t) t (none_above forms refl k t there h.typed)) (λ e i. refl))
+      h.typed (λ q. absurd (false≢true q)) (λ q. absurd (false≢true q)) (not_kept false _ refl) h.small)
+
+  -- where they keep pointers
+  handing : AreTypedBy true true tree → is_whole_program true tree ≡ true →
+      ((k : ℕ) (t : TaskTree) → slice_get (tasks_of tree) k ≡ Some t → AllGoToParams (scope_of tree t).names) → TasksKeepRules tree
+  handing typed whole goals = tasks_keep_rules tree (tops_of tree) (λ k t there. (typed k t there).given) (λ k t there.
+      let h = typed k t there in
+      let are = are_tops tree t in
+      told_marks (tops_of tree) (forms_by true true tree t) k t there are.falls
+      (hands_taken (tops_of tree) t (taking_of tree t) refl refl refl refl refl are (λ e. absurd (false≢true (sym e))))
+      h.typed (λ q. opening_scoped tree t (goals k t there)) (λ q. opening_cut tree t (tops_of tree t) (told_in tree t) (goals k t there)) (λ q. each_task (tasks_of tree) k whole there) h.small)
     where
       each_task : {t : TaskTree} (ts : List TaskTree) (k : ℕ) → list_all (is_whole_task true tree) ts ≡ true → slice_get ts k ≡ Some t → is_whole_task true tree t ≡ true
       each_task [] k h e = absurd (none-some _ e)
@@ -124,11 +142,11 @@ module _ (tree : Tree) (none : breaches tree ≡ []) where
       each_task (u ∷ us) (suc k) h e = each_task us k (and_parts _ _ h).1 e
 
 pub accepted_tasks_are_sound : AcceptedTasksAreSound
-accepted_tasks_are_sound tree none typed = tasks_keep_rules tree (λ k t there. (typed k t there).given) (λ k t there.
-    let h = typed k t there in told_marks tree none call_forms k t there (hands_none refl) h.typed (λ q. absurd (false≢true q)) (λ q. absurd (false≢true q)) (not_kept false _ refl) h.small)
+accepted_tasks_are_sound tree none typed = tasks_keep_rules tree none_begun (λ k t there. (typed k t there).given) (λ k t there.
+    let h = typed k t there in told_marks tree none none_begun call_forms k t there (λ i q e. absurd (none-some q e)) (hands_none refl refl (λ i. refl)) h.typed (λ q. absurd (false≢true q)) (λ q. absurd (false≢true q)) (not_kept false _ refl) h.small)
 
 pub handing_tasks_are_sound : HandingTasksAreSound
-handing_tasks_are_sound tree none typed = handing tree none false typed (λ q. absurd (false≢true q)) (λ q. absurd (false≢true q))
+handing_tasks_are_sound tree none typed = plain_handing tree none typed
 
 -- by the run of such tasks
 begun_soundly : (forms : Forms) (tree : Tree) (inputs : List ℤ) → TasksKeepRules tree → IsTypedRun forms tree inputs → LocalRunsSoundly tree inputs
@@ -164,7 +182,7 @@ module _ (tree : Tree) (inputs : List ℤ) (p : IsLocalProgramRun tree inputs) w
 
 pub whole_programs_are_sound : WholeProgramsAreSound
 whole_programs_are_sound tree inputs p = begun_soundly (forms_by true true tree (task_named tree (entry_name tree))) tree inputs
-    (handing tree p.run.accepted true (local_tasks tree inputs p.run)
-    (λ q. program_few tree (items_kept tree inputs p.run) (local_few tree inputs p.run)
-    (program_whole tree (λ t. forms_by true true tree t) (λ t. refl) (λ t. refl) (λ k t at. (local_tasks tree inputs p.run k t at).typed) p.free))
-    (λ q. local_goals tree inputs p.run)) (local_run tree inputs p.run)
+    (handing tree p.run.accepted (local_tasks tree inputs p.run)
+    (program_few tree (items_kept tree inputs p.run) (local_few tree inputs p.run)
+    (program_whole tree (λ t. forms_by true true tree t) (λ t. refl) (λ k t at. (local_tasks tree inputs p.run k t at).typed) p.free))
+    (local_goals tree inputs p.run)) (local_run tree inputs p.run)

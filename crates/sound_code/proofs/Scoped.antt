@@ -19,7 +19,7 @@ use Rattle.code_laws.specs.Pointers.{a_pointer_type, AreThere, IsPointer}
 use Rattle.code_laws.specs.Simple.{a_region_type, IsPartition, IsRegion}
 use Rattle.fit_rules.specs.Shapes.{Each, region, Shape}
 use Rattle.sound_code.specs.Named.{AreNamed, slot_at}
-use Rattle.sound_code.specs.Ways.{all_made, by_rules, origin_in, shape_in, shape_of, Way}
+use Rattle.sound_code.specs.Ways.{Tops, all_made, by_rules, origin_in, shape_in, shape_of, Way}
 use Rattle.sound_code.proofs.Grounds.{IsPlaced, OfType}
 
 -- the regions of a list, but for a part, which stands beside the pointer
@@ -40,14 +40,14 @@ AreScoped all (b ∷ bs) = IsScoped all b.number b.static_type × AreScoped all 
 -- where a task is looked at by the rules
 abbrev pub ScopedBy : Way → List Bound → Type 0
 ScopedBy all_made bs = Unit {0}
-ScopedBy (by_rules task) bs = AreScoped bs bs
+ScopedBy (by_rules tops task) bs = AreScoped bs bs
 
 -- and pointers may be kept
 abbrev pub Scoped : Bool → Way → List Bound → Type 0
 Scoped keeps way bs = keeps ≡ true → ScopedBy way bs
 
 pub data IsByRules : Way → Type 0 where
-  is_by_rules : (task : TaskTree) → IsByRules (by_rules task)
+  is_by_rules : (tops : Tops) (task : TaskTree) → IsByRules (by_rules tops task)
 
 -- ---- regions by their numbers
 
@@ -178,12 +178,12 @@ module _ (next : ℕ) (bs : List Bound) (b : Bound) (falls : Falls next bs) (new
 -- ---- regions that name themselves
 
 -- such a region's shape, and its place
-module _ (task : TaskTree) (params : ℕ) (all : List Bound) where
+module _ (tops : Tops) (task : TaskTree) (params : ℕ) (all : List Bound) where
   pub own_shape : (u : StaticType) (n i sp : ℕ) → IsRegion u → IsScoped all n u → n ≡ i → space_in u ≡ sp →
-      shape_in (by_rules task) params u ≡ region (Some sp) (origin_in (by_rules task) params (term.Name i))
+      shape_in (by_rules tops task) params u ≡ region (Some sp) (origin_in (by_rules tops task) params (term.Name i))
   own_shape _ n i sp (a_region_type k sq args r) h e es =
-      ap (λ y. region (Some y) (origin_in (by_rules task) params r)) es
-      ∙ ap (λ u. region (Some sp) (origin_in (by_rules task) params u)) (h ∙ ap term.Name e)
+      ap (λ y. region (Some y) (origin_in (by_rules tops task) params r)) es
+      ∙ ap (λ u. region (Some sp) (origin_in (by_rules tops task) params u)) (h ∙ ap term.Name e)
 
   pub own_place : (u : StaticType) (n i place : ℕ) → IsRegion u → IsScoped all n u → n ≡ i → OfType params place u → i < params → place ≡ i
   own_place _ n i place (a_region_type k sq args r) h e o = subst (λ u. OfType params place (region_type k sq args u)) (h ∙ ap term.Name e) o

@@ -24,7 +24,7 @@ use Rattle.sound_code.proofs.Told.{ToldForm}
 pub scoped_bound : (keeps : Bool) (way : Way) (tree : Tree) (s : Scope) (form : Form) (b : Bound) → b.number ≡ s.next → ToldForm way tree s form →
     Scoped keeps way s.names → (AreScoped s.names s.names → IsScoped s.names b.number b.static_type) → Scoped keeps way (b ∷ s.names)
 scoped_bound keeps all_made tree s form b e told o h q = tt
-scoped_bound keeps (by_rules task) tree s form b e told o h q = scoped_with s.next s.names b told.1.scope.numbers (omega (arith, e)) (o q) (h (o q))
+scoped_bound keeps (by_rules tops task) tree s form b e told o h q = scoped_with s.next s.names b told.1.scope.numbers (omega (arith, e)) (o q) (h (o q))
 
 pub simple_scoped : (all : List Bound) (n : ℕ) (u : StaticType) → IsSimple u → IsScoped all n u
 simple_scoped all n _ (simple_integer w) = tt

@@ -1,5 +1,5 @@
 -- Variables that begin with new roots and partitions, with written types or without, have marks.
-use Rattle.std.proofs.Common.{ℕ, true, List, ◌∷◌, Option, Some, None, refl, sym, subst}
+use Rattle.std.proofs.Common.{ℕ, true, List, ◌∷◌, Option, Some, None, refl, sym, ◌∙◌, subst}
 use Rattle.std.specs.Prelude.{map}
 use Rattle.regent_tree.specs.Partitions.{both_flag, by_field_flag, either_flag, equal_flag, image_flag, preimage_flag}
 use Rattle.regent_tree.specs.Scopes.{in_scope}
@@ -24,9 +24,11 @@ use Rattle.fit_rules.specs.Shapes.{own_as, region}
 use Rattle.sound_code.specs.Named.{HasSlots}
 use Rattle.sound_code.proofs.WholeTasks.{is_whole_expression, is_whole_form}
 use Rattle.sound_code.specs.Ways.{Way}
-use Rattle.sound_code.proofs.Asked.{Asked}
+use Rattle.sound_code.proofs.Asked.{Asked, begins_wholly}
 use Rattle.sound_code.proofs.CutForms.{by_field_marked, equal_marked, image_marked, join_marked, meet_marked, preimage_marked, said_cut}
-use Rattle.sound_code.proofs.Cuts.{cut_plain}
+use Rattle.sound_code.proofs.Cuts.{cut_bound}
+use Rattle.sound_code.proofs.Grounds.{BeginsWholly}
+use Rattle.std.proofs.lemmas.Option.{none-some}
 use Rattle.sound_code.proofs.Expressions.{stored}
 use Rattle.sound_code.proofs.Liking.{like_root}
 use Rattle.sound_code.proofs.Numbering.{free_number}
@@ -42,7 +44,7 @@ module _ (g : Program) (t : TaskCode) (k slots : ℕ) (have : HasSlots t slots) 
       IsBegunBy forms w (region_initializer e u) → Asks forms.keeps (is_whole_expression true w e) →
       ToldForm way w.tree w.scope (var_form x said (Some (region_initializer e u))) → (pc : ℕ) →
       Stands t.body pc (form_code w (var_form x said (Some (region_initializer e u)))) →
-      Followed g t k forms.keeps way w.params
+      Followed g t k forms.keeps way w.tree w.params
       (new_name g t k slots have forms way w m a x (region_type kind (place_of_space w.tree u.name) args (term.Name w.scope.next)) ∷ w.scope.names) m
       (form_code w (var_form x said (Some (region_initializer e u))))
   root_begun x said e u kind args f whole told pc st =
@@ -50,17 +52,18 @@ module _ (g : Program) (t : TaskCode) (k slots : ℕ) (have : HasSlots t slots) 
       let sp = place_of_space w.tree u.name in
       let v = region_type kind sp args (term.Name w.scope.next) in
       let b = new_name g t k slots have forms way w m a x v in
-      let free = free_number t way w.tree w.params w.scope form m.slots kind sp args a.ground told a.ready.numbered in
+      let free = free_number t way w.tree w.params w.scope form m.slots kind sp args (begins_wholly forms t way w.tree w.scope.next a.hands f.4) a.ground told a.ready.numbered in
       bind_marked g t k slots have forms way w m a x (region (Some sp) (own_as free.number)) v _ free.becomes
       (free.named b refl)
       (scoped_bound forms.keeps way w.tree w.scope form b refl told a.scoped (λ all. refl))
-      (cut_plain forms.keeps way w.tree w.scope form b w.params m.facts m.facts refl told (λ l h. h) a.cut tt) refl
+      (cut_bound forms.keeps way w.tree w.scope form b w.params m.facts m.facts refl told (λ l h. h) a.cut
+      (λ tops task by q l e. absurd (none-some q (sym (subst (λ v. BeginsWholly v w.scope.next) by (begins_wholly forms t way w.tree w.scope.next a.hands f.4)) ∙ e)))) refl
       (root_marked g t k slots have forms way w m a e sp free.number free.others f.1 f.2 whole
       (told_head w.tree w.scope way form e refl told) f.3 pc st.0.0) (stored g t k slots have forms way w m a _ _ st.1)
 
   pub started : (x : Name) (start : Initializer) → IsBegunBy forms w start → Asks forms.keeps (is_whole_form true w (var_form x None (Some start))) →
       ToldForm way w.tree w.scope (var_form x None (Some start)) → (pc : ℕ) → Stands t.body pc (form_code w (var_form x None (Some start))) →
-      Followed g t k forms.keeps way w.params (after_form w (var_form x None (Some start))).scope.names m (form_code w (var_form x None (Some start)))
+      Followed g t k forms.keeps way w.tree w.params (after_form w (var_form x None (Some start))).scope.names m (form_code w (var_form x None (Some start)))
   started x (plain_initializer e) f whole told pc st = absurd f
   started x (region_initializer e u) f whole told pc st =
       root_begun x None e u (kind_of_ispace (typed w e)) (map (looked_up (in_scope w.scope)) u.args) f whole told pc st
@@ -82,12 +85,12 @@ module _ (g : Program) (t : TaskCode) (k slots : ℕ) (have : HasSlots t slots) 
       IsLike (var_type w.tree w.scope (Some said) (Some start)) (initializer_type w.tree w.scope w.scope.next start) → IsBegunBy forms w start →
       Asks forms.keeps (is_whole_form true w (var_form x (Some said) (Some start))) → ToldForm way w.tree w.scope (var_form x (Some said) (Some start)) →
       (pc : ℕ) → Stands t.body pc (form_code w (var_form x (Some said) (Some start))) →
-      Followed g t k forms.keeps way w.params (after_form w (var_form x (Some said) (Some start))).scope.names m
+      Followed g t k forms.keeps way w.tree w.params (after_form w (var_form x (Some said) (Some start))).scope.names m
       (form_code w (var_form x (Some said) (Some start)))
   said_started x said (plain_initializer e) like f whole told pc st = absurd f
   said_started x said (region_initializer e u) like f whole told pc st =
       let is = like_root _ _ _ _ _ like in
-      subst (λ v. Followed g t k forms.keeps way w.params (new_name g t k slots have forms way w m a x v ∷ w.scope.names) m
+      subst (λ v. Followed g t k forms.keeps way w.tree w.params (new_name g t k slots have forms way w m a x v ∷ w.scope.names) m
       (form_code w (var_form x (Some said) (Some (region_initializer e u))))) (sym is.is)
       (root_begun x (Some said) e u is.kind is.args f whole told pc st)
   said_started x said (equal_initializer r e) like f whole told pc st =

@@ -1,5 +1,5 @@
 -- The code of statements without blocks has marks.
-use Rattle.std.proofs.Common.{◌≡◌, inl, ℕ, suc, ◌<◌, ◌≤◌, List, [], ◌∷◌, pos, negsuc, cond, Bool, true, false, Some, refl, sym, ap, ◌∙◌, subst, arith, ◌&&◌}
+use Rattle.std.proofs.Common.{◌≡◌, inl, ℕ, suc, ◌<◌, ◌≤◌, List, [], ◌∷◌, pos, negsuc, cond, Bool, true, false, Some, refl, sym, ap, ◌∙◌, subst, arith}
 use Rattle.std.specs.Prelude.{get_or, slice_get, slice_set, length}
 use Rattle.std.proofs.lemmas.List.{length-map, length-set}
 use Rattle.std.proofs.lemmas.Int.{ints}
@@ -12,7 +12,7 @@ use Rattle.regent_tree.specs.declared.typing.StaticType.{StaticType}
 use Rattle.regent_tree.specs.declared.typing.StaticType.TheVariants.{Integer as integer_type, Truth as truth_type}
 use Rattle.regent_tree.specs.Lookup.{is_bound}
 use Rattle.regent_tree.specs.StaticTypes.{space_at, spaces_of, task_named}
-use Rattle.regent_tree.specs.Syntax.{Name, Expression, Expressions, number_expr, truth_expr, chain_expr, prefix_expr, access_expr, call_expr, convert_expr, is_null_expr, null_expr, cast_expr, space_expr, no_step, field_step, at_step, assert_form, assign_form, call_form, return_form}
+use Rattle.regent_tree.specs.Syntax.{Name, Tree, Expression, Expressions, number_expr, truth_expr, chain_expr, prefix_expr, access_expr, call_expr, convert_expr, is_null_expr, null_expr, cast_expr, space_expr, no_step, field_step, at_step, assert_form, assign_form, call_form, return_form}
 use Rattle.regent_tree.specs.Typing.{owned, param_types, params_at, reaches_of}
 use Rattle.task_code.specs.declared.code.SpaceCode.{SpaceCode}
 use Rattle.task_code.specs.declared.code.TaskCode.{TaskCode}
@@ -36,12 +36,12 @@ use Rattle.fit_rules.specs.Fits.{Program}
 use Rattle.fit_rules.specs.Sound.{IsOther, does_num, does_assert, does_drop}
 use Rattle.marked_code.specs.Marked.{leads_back, leads_making, typed_op, typed_branch, typed_loop}
 use Rattle.fit_laws.proofs.Keeping.{get_other, get_set, set_mark}
+use Rattle.sound_code.proofs.Plain.{plain_in}
 use Rattle.sound_code.proofs.Counting.{null_fits}
 use Rattle.sound_code.specs.Named.{slot_at, HasSlots, IsNumbered, Ready, Narrower}
-use Rattle.sound_code.specs.FreeCalls.{are_free}
 use Rattle.sound_code.proofs.WholeTasks.{are_whole_arguments, is_whole_expression}
 use Rattle.sound_code.specs.Ways.{Way, shape_in, shape_of}
-use Rattle.sound_code.proofs.Wholes.{alike_becomes, alike_simple, Asks, Becomes, IsKept, IsWorth, kept_pointer, kept_simple, simple_few, worth_few, worth_named, worth_pointer, worth_simple, asks_first, asks_second}
+use Rattle.sound_code.proofs.Wholes.{alike_becomes, alike_simple, Asks, Becomes, IsKept, IsWorth, kept_pointer, kept_simple, simple_few, worth_few, worth_named, worth_pointer, worth_simple}
 use Rattle.sound_code.proofs.Steady.{steady_below}
 use Rattle.sound_code.proofs.Told.{Told, ToldArgs, ToldCall}
 use Rattle.sound_code.proofs.Asked.{Asked}
@@ -51,7 +51,7 @@ use Rattle.sound_code.proofs.Numbering.{each_numbered, numbered_set}
 use Rattle.machine_terms.specs.declared.value.Value.{Value}
 use Rattle.sound_code.proofs.Calling.{alike_second, scalar_numeric}
 use Rattle.sound_code.proofs.Handing.{calls}
-use Rattle.sound_code.proofs.Combining.{bare_number, bare_space, IsBare, Marked, nothing_done, both, does, into, behind_kept, named_kept, keeping, slot_high, slot_next, storing}
+use Rattle.sound_code.proofs.Combining.{bare_number, bare_space, IsBare, Marked, nothing_done, both, does, into, behind_kept, fixed_to, fixing, named_kept, keeping, slot_high, slot_next, storing}
 use Rattle.sound_code.proofs.Expressions.{args_marked, converted_marked, expr_marked, named_at, truth_shape}
 use Rattle.sound_code.proofs.Besides.{NamesNoChild, none_beside, parts_behind}
 use Rattle.sound_code.proofs.Narrowing.{AtLeast, fewer_facts, narrow_long, narrow_itself, narrow_set, narrow_into, named_behind}
@@ -68,7 +68,8 @@ kept_bare _ (worth_pointer k sp args rs few) = bare_number _ (numeric_pointer _)
 -- one more name
 pub named_more : (way : Way) (params : ℕ) (bs : List Bound) (m : Mark) (b : Bound) → Ready way params bs m →
     slot_at params (length bs) < length m.slots → b.place ≡ length bs → IsNumbered (b ∷ bs) (shape_in way params b.static_type) →
-    NamesNoChild b.static_type → Ready way params (b ∷ bs) (set_mark m (slot_at params (length bs)) (shape_in way params b.static_type) [])
+    NamesNoChild b.static_type →
+    Ready way params (b ∷ bs) (fixed_to (slot_at params (suc (length bs))) (set_mark m (slot_at params (length bs)) (shape_in way params b.static_type) []))
 named_more way params bs m b r hi e numbered none = record {
   named = (
     e,
@@ -87,9 +88,10 @@ named_more way params bs m b r hi e numbered none = record {
   numbered = numbered_set (b ∷ bs) m.slots (slot_at params (length bs)) (shape_in way params b.static_type) (each_numbered bs b m.slots r.numbered) numbered;
   facts = steady_below params (length bs) (suc (length bs)) m.facts (omega arith) r.facts;
   low = omega (arith, r.low);
+  fixed = refl;
 }
 
-module _ (g : Program) (t : TaskCode) (k : ℕ) (keeps : Bool) (way : Way) where
+module _ (g : Program) (t : TaskCode) (k : ℕ) (keeps : Bool) (way : Way) (tree : Tree) where
   -- what stands behind a statement
   pub record Followed (params : ℕ) (bs : List Bound) (m : Mark) (p : Piece) : Type 0 where
     pub next : Mark
@@ -98,17 +100,17 @@ module _ (g : Program) (t : TaskCode) (k : ℕ) (keeps : Bool) (way : Way) where
     pub narrower : Narrower next.slots m.slots
     pub facts : AtLeast m.facts next.facts
     pub scoped : Scoped keeps way bs
-    pub cut : Cut keeps way params next.facts bs
+    pub cut : Cut keeps way tree params next.facts bs
 
   -- a statement after which all is as before
   pub unchanged : (params : ℕ) (bs : List Bound) (m : Mark) (p : Piece) → Ready way params bs m → Scoped keeps way bs →
-      Cut keeps way params m.facts bs → Marked g t k (stacked m []) p (stacked m []) → Followed params bs m p
+      Cut keeps way tree params m.facts bs → Marked g t k (stacked m []) p (stacked m []) → Followed params bs m p
   unchanged params bs m p r o c f = record { next = m; is = f; ready = r; narrower = narrow_itself m.slots; facts = λ l a. a; scoped = o; cut = c }
 
   -- a block that begins and ends in the same scope
   pub closed_block : (params : ℕ) (bs : List Bound) (m : Mark) (p : Piece) → Followed params bs m p →
       Marked g t k (stacked m []) p (stacked m [])
-  closed_block params bs m p f = into g t k f.is (narrow_into t.params f.next m [] f.narrower (fewer_facts _ _ f.facts))
+  closed_block params bs m p f = into g t k f.is (narrow_into t.params f.next m f.narrower (fewer_facts _ _ f.facts))
       (sym (narrow_long _ _ f.narrower))
 
 module _ (g : Program) (t : TaskCode) (k slots : ℕ) (have : HasSlots t slots) (forms : Forms) (way : Way) (w : Where) (m : Mark)
@@ -165,18 +167,18 @@ module _ (g : Program) (t : TaskCode) (k slots : ℕ) (have : HasSlots t slots) 
   -- a value of a type is stored as that of a new name of an alike type
   pub bind_marked : (n : Name) (a : Shape) (u : StaticType) (p : Piece) → ((x : World) (v : Value) → Is x a v → Is x (shape_in way w.params u) v) →
       IsNumbered (new_name n u ∷ w.scope.names) (shape_in way w.params u) → Scoped forms.keeps way (new_name n u ∷ w.scope.names) →
-      Cut forms.keeps way w.params m.facts (new_name n u ∷ w.scope.names) → NamesNoChild u →
+      Cut forms.keeps way w.tree w.params m.facts (new_name n u ∷ w.scope.names) → NamesNoChild u →
       Marked g t k (stacked m []) p (stacked m (a ∷ [])) → slot_at w.params (length w.scope.names) < length m.slots →
-      Followed g t k forms.keeps way w.params (new_name n u ∷ w.scope.names) m
+      Followed g t k forms.keeps way w.tree w.params (new_name n u ∷ w.scope.names) m
       (p ⨟ op (instr.Store (slot_at w.params (length w.scope.names))) w.line)
   bind_marked n a u p becomes numbered scoped cut none f hi =
       let r = asked.ready in
       let s = slot_at w.params (length w.scope.names) in
       record {
-        next = set_mark m s (shape_in way w.params u) [];
-        is = both g t k f (storing g t k m s a (shape_in way w.params u) [] w.line (behind_kept way w.params w.scope.names m s r (omega arith))
-            (omega (arith, slot_high w.params (length w.scope.names) r.low, asked.params)) hi
-            becomes);
+        next = fixed_to (slot_at w.params (suc (length w.scope.names))) (set_mark m s (shape_in way w.params u) []);
+        is = fixing g t k _ (set_mark m s (shape_in way w.params u) []) _ _ (both g t k f (storing g t k m s a (shape_in way w.params u) [] w.line (behind_kept way w.params w.scope.names m s r (omega arith))
+            (omega (arith, slot_high w.params (length w.scope.names) r.low, asked.params)) (omega (arith, r.fixed)) (plain_in way w.params u) hi
+            becomes));
         ready = named_more way w.params w.scope.names m (new_name n u) r hi refl numbered none;
         narrower = narrow_set m.slots m.slots s _ (narrow_itself m.slots) (inl (r.free s (omega arith) hi));
         facts = λ l a. a;
@@ -230,18 +232,18 @@ module _ (g : Program) (t : TaskCode) (k slots : ℕ) (have : HasSlots t slots) 
 
   pub assign_marked : (x : Name) (e : Expression) → Becomes (typed w e) (bound w x).static_type → IsWorth (bound w x).static_type → IsTyped forms w e →
       Asks forms.keeps (is_whole_expression true w e) → Told way w.tree w.scope e → is_bound w.scope.names x ≡ true → slot_named w x < length m.slots → (pc : ℕ) →
-      Stands t.body pc (expr_code w 0 e) → Followed g t k forms.keeps way w.params w.scope.names m (form_code w (assign_form x no_step how.Set e))
+      Stands t.body pc (expr_code w 0 e) → Followed g t k forms.keeps way w.tree w.params w.scope.names m (form_code w (assign_form x no_step how.Set e))
   assign_marked x e goes is f whole told b hi pc st =
       let r = asked.ready in
       let h = named_at way w.params m.slots w.scope.names x r.named b ∙ ap Some (worth_named way w.params _ is) in
-      unchanged g t k forms.keeps way _ _ m _ r asked.scoped asked.cut (both g t k (both g t k (value_marked e [] f whole told pc st)
+      unchanged g t k forms.keeps way w.tree _ _ m _ r asked.scoped asked.cut (both g t k (both g t k (value_marked e [] f whole told pc st)
       (converted_marked g t k slots have forms way w m asked _ _ [] goes (worth_few _ is)))
-      (keeping g t k m (slot_named w x) (shape_of (bound w x).static_type) [] w.line
+      (keeping g t k m (slot_named w x) (shape_of (bound w x).static_type) w.line
       (named_kept way w.params w.scope.names m (bound w x).place r) (kept_bare _ is) hi h))
 
   pub return_marked : (e : Expression) → AreAlike (typed w e) w.result → IsTyped forms w e → Asks forms.keeps (is_whole_expression true w e) → Told way w.tree w.scope e → (pc : ℕ) → Stands t.body pc (expr_code w 0 e) →
-      Followed g t k forms.keeps way w.params w.scope.names m (form_code w (return_form (Some e)))
-  return_marked e al f simple told pc st = unchanged g t k forms.keeps way _ _ m _ asked.ready asked.scoped asked.cut (both g t k (value_marked e [] f simple told pc st)
+      Followed g t k forms.keeps way w.tree w.params w.scope.names m (form_code w (return_form (Some e)))
+  return_marked e al f simple told pc st = unchanged g t k forms.keeps way w.tree _ _ m _ asked.ready asked.scoped asked.cut (both g t k (value_marked e [] f simple told pc st)
       (both g t k (converted_marked g t k slots have forms way w m asked _ _ [] (alike_becomes _ _ al) (simple_few _ (alike_simple _ _ al))) (record {
         marks = _;
         is = typed_op _ _ _ w.line (leads_back (stacked m (shape_of w.result ∷ [])) (stacked m []) (shape_of w.result) []
@@ -249,22 +251,22 @@ module _ (g : Program) (t : TaskCode) (k slots : ℕ) (have : HasSlots t slots) 
       })))
 
   pub assert_marked : (e : Expression) → IsTruth (typed w e) → IsTyped forms w e → Asks forms.keeps (is_whole_expression true w e) → Told way w.tree w.scope e → (pc : ℕ) → Stands t.body pc (expr_code w 0 e) →
-      Followed g t k forms.keeps way w.params w.scope.names m (form_code w (assert_form e))
-  assert_marked e h f simple told pc st = unchanged g t k forms.keeps way _ _ m _ asked.ready asked.scoped asked.cut (both g t k (test_marked e [] h f simple told pc st)
+      Followed g t k forms.keeps way w.tree w.params w.scope.names m (form_code w (assert_form e))
+  assert_marked e h f simple told pc st = unchanged g t k forms.keeps way w.tree _ _ m _ asked.ready asked.scoped asked.cut (both g t k (test_marked e [] h f simple told pc st)
       (does g t k (stacked m (truth ∷ [])) instr.Assert w.line [] (does_assert truth [] numeric_truth)))
 
   -- a call whose result is left
   pub call_marked : (task : Name) (args : Expressions) → IsCallable forms w task args →
       ArePassed forms w (params_at w.tree w.scope (task_named w.tree task) args) (param_types w.tree (task_named w.tree task)) args →
-      Asks forms.keeps (are_whole_arguments true w (param_types w.tree (task_named w.tree task)) args && are_free (task_named w.tree task) args) → ToldCall way w.tree w.scope task args → ToldArgs way w.tree w.scope args →
+      Asks forms.keeps (are_whole_arguments true w (param_types w.tree (task_named w.tree task)) args) → ToldCall way w.tree w.scope task args → ToldArgs way w.tree w.scope args →
       (pc : ℕ) → Stands t.body pc (form_code w (call_form task args)) →
-      Followed g t k forms.keeps way w.params w.scope.names m (form_code w (call_form task args))
+      Followed g t k forms.keeps way w.tree w.params w.scope.names m (form_code w (call_form task args))
   call_marked task args is passed simple called told pc st =
       let u = task_named w.tree task in
       let ts = params_at w.tree w.scope u args in
-      unchanged g t k forms.keeps way _ _ m _ asked.ready asked.scoped asked.cut
-      (both g t k (args_marked g t k slots have forms way w m asked 0 ts (param_types w.tree u) args [] passed (asks_first _ _ _ simple) told pc st.0)
-      (both g t k (calls g t k slots forms way w m asked task ts args [] is passed (asks_first _ _ _ simple) (asks_second _ _ _ simple) called)
+      unchanged g t k forms.keeps way w.tree _ _ m _ asked.ready asked.scoped asked.cut
+      (both g t k (args_marked g t k slots have forms way w m asked 0 ts (param_types w.tree u) args [] passed simple told pc st.0)
+      (both g t k (calls g t k slots forms way w m asked task ts args [] is passed simple called)
       (does g t k _ instr.Drop w.line [] (does_drop _ []))))
 
   pub while_marked : (test : Expression) (p : Piece) → IsTruth (typed w test) → IsTyped forms w test → Asks forms.keeps (is_whole_expression true w test) → Told way w.tree w.scope test → (pc : ℕ) →

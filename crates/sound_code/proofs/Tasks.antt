@@ -36,7 +36,8 @@ use Rattle.sound_code.proofs.Grounds.{Ground, HasFacts}
 use Rattle.sound_code.proofs.Steady.{steady_below}
 use Rattle.sound_code.proofs.Told.{ToldBlock}
 use Rattle.sound_code.proofs.Parameters.{opening_numbered, params_low}
-use Rattle.sound_code.proofs.Asked.{Hands, opening_mark, other, Known}
+use Rattle.sound_code.proofs.Asked.{Hands, opening_mark, other, Known, upto_before, upto_end}
+use Rattle.code_laws.proofs.Told.{block_grows}
 use Rattle.sound_code.proofs.Blocks.{block_marked}
 use Rattle.sound_code.proofs.Calling.{opening_steady, types_many}
 use Rattle.marked_code.proofs.Firsts.{begins_with}
@@ -77,7 +78,7 @@ free_behind (x ∷ ss) n (suc s) h l = free_behind ss n s (omega (arith, h)) (om
 -- tasks are looked at in the same way from each other
 other_same : (way : Way) (t u : TaskTree) → other (other way t) u ≡ other way u
 other_same all_made t u = refl
-other_same (by_rules task) t u = refl
+other_same (by_rules tops task) t u = refl
 
 module _ (tree : Tree) where
   names_many : (t : TaskTree) → length (scope_of tree t).names ≡ length t.params
@@ -110,13 +111,14 @@ module _ (tree : Tree) where
         numbered = opening_numbered way n (scope_of tree t).names (param_types tree t) blanks (params_low tree t);
         facts = steady_below n n (length (scope_of tree t).names) (opening_facts way tree t) (omega (arith, names_many t)) (opening_steady way tree t);
         low = omega (arith, names_many t);
+        fixed = omega (arith, names_many t);
       }
 
 -- ---- the program before marks are chosen
 
 facts_open : (way : Way) (tree : Tree) (t : TaskTree) → HasFacts (other way t) tree (opening_facts (other way t) tree t)
 facts_open all_made tree t = tt
-facts_open (by_rules task) tree t = λ k a. a
+facts_open (by_rules tops task) tree t = λ k a. a
 
 module _ (tree : Tree) (way : Way) where
   -- the mark in which a task begins
@@ -160,7 +162,7 @@ module _ (tree : Tree) (way : Way) where
   pub treat : (forms : Forms) (k : ℕ) (t : TaskTree) → slice_get (tasks_of tree) k ≡ Some t → Hands forms (task_code tree t) (other way t) tree →
       Ground (task_code tree t) (other way t) tree (length t.params) (scope_of tree t) → ToldBlock (other way t) tree (scope_of tree t) t.body →
       IsTypedBlock forms (place_of tree t) t.body → (forms.keeps ≡ true → IsByRules (other way t)) → Scoped forms.keeps (other way t) (scope_of tree t).names →
-      Cut forms.keeps (other way t) (length t.params) (opening_facts (other way t) tree t) (scope_of tree t).names → Asks forms.keeps (is_whole_task true tree t) →
+      Cut forms.keeps (other way t) tree (length t.params) (opening_facts (other way t) tree t) (scope_of tree t).names → Asks forms.keeps (is_whole_task true tree t) →
       length (lines (body_piece tree t) 0) ≤ 2 ^ 32 → HasMarks k t
   treat forms k t there hands ground told typed ruled scoped cut whole small =
       let code = task_code tree t in
@@ -179,7 +181,8 @@ module _ (tree : Tree) (way : Way) where
         ruled = ruled;
         scoped = scoped;
         cut = cut;
-      }) told 0 (stands_alone (body_piece tree t) small).0 in
+        upto = upto_before (other way t) tree _ _ (block_grows tree (scope_of tree t) t.body) (upto_end way tree t);
+      }) told (upto_end way tree t) 0 (stands_alone (body_piece tree t) small).0 in
       record {
         marks = f.is.marks ++ stacked f.next [] ∷ [];
         treated = record { front = f.is.marks; last = stacked f.next []; are = refl; typed = f.is.is; small = small };

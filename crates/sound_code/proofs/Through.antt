@@ -15,7 +15,7 @@ use Rattle.regent_tree.specs.Accesses.{space_in}
 use Rattle.regent_tree.specs.Lookup.{has_field, is_bound}
 use Rattle.regent_tree.specs.StaticTypes.{field_place, field_term, Reach, space_at}
 use Rattle.regent_tree.specs.Syntax.{access_expr, assign_form, Expression, field_step, Name, no_step, Steps, TaskTree}
-use Rattle.regent_tree.specs.Typing.{has_wild, parent_of, reaches_of}
+use Rattle.regent_tree.specs.Typing.{has_wild, reaches_of}
 use Rattle.regent_tree.specs.declared.facts.Colour.{Colour}
 use Rattle.regent_tree.specs.declared.facts.Term.TheVariants as term
 use Rattle.regent_tree.specs.declared.rights.Access.{Access}
@@ -47,13 +47,13 @@ use Rattle.fit_rules.specs.Marks.{Mark, stacked}
 use Rattle.fit_rules.specs.Fits.{kind_at, Program, shape_at}
 use Rattle.fit_rules.specs.Sound.{Allowed, does_load, does_read, does_reduce, does_write, settled_number}
 use Rattle.sound_code.specs.Named.{AreNamed, HasPartBeside, IsPartBeside, parent_as}
-use Rattle.sound_code.specs.Ways.{by_rules, origin_in, shape_of}
+use Rattle.sound_code.specs.Ways.{Tops, by_rules, shape_of}
 use Rattle.sound_code.proofs.Asked.{Known}
 use Rattle.sound_code.proofs.Combining.{both, does, Marked}
 use Rattle.sound_code.proofs.Elements.{field_shape, kind_same}
-use Rattle.sound_code.proofs.Granting.{allowed, allowed_over, allowed_within, named_one, term_in}
+use Rattle.sound_code.proofs.Granting.{allowed, allowed_part, term_in}
 use Rattle.sound_code.proofs.Grounds.{HasFacts, Kept}
-use Rattle.sound_code.proofs.Scoped.{Aims, AreScoped, IsScoped, own_place, own_shape, placed_as, region_as, region_found, scoped_as}
+use Rattle.sound_code.proofs.Scoped.{Aims, AreScoped, IsScoped, placed_as, region_as, scoped_as}
 use Rattle.sound_code.proofs.Wanting.{below_any, not_lacking}
 
 own_term : (all : List Bound) (n : ℕ) (t : StaticType) → IsRegion t → IsScoped all n t → term_in t ≡ term.Name n
@@ -112,17 +112,17 @@ module _ (w : Where) (task : TaskTree) where
       may_each (bound w x).static_type f (access.Reduce o) p certain l (not_lacking w.tree task w.scope (assign_form x (field_step f no_step) (how.Reduce o) y) h).1
 
   -- so each access is allowed
-  module _ (g : Program) (t : TaskCode) (m : Mark) (ep : w.params ≡ t.params) (known : Known (by_rules task) g w.tree)
-      (kept : Kept t task w.tree w.params w.scope) (facts : HasFacts (by_rules task) w.tree m.facts)
-      (named : AreNamed (by_rules task) w.params m.slots w.scope.names) (scoped : AreScoped w.scope.names w.scope.names) where
+  module _ (tops : Tops) (g : Program) (t : TaskCode) (m : Mark) (ep : w.params ≡ t.params) (known : Known (by_rules tops task) g w.tree)
+      (kept : Kept t tops task w.tree w.params w.scope) (facts : HasFacts (by_rules tops task) w.tree m.facts)
+      (named : AreNamed (by_rules tops task) w.params m.slots w.scope.names) (scoped : AreScoped w.scope.names w.scope.names) where
     allowed_each : (sp f own : ℕ) (a : Access) (us : List Shape) (rs : List Reach) → AreThere w.scope.names sp rs → has_wild rs ≡ false → MayEach rs f a →
         f < length (space_at w.tree sp).fields → Each (Allowed g t (stacked m us) sp f (mode_of a)) (map (slot_of_reach w own) rs)
     allowed_each sp f own a us [] there certain may l = tt
     allowed_each sp f own a us (Some (term.Name i) ∷ rs) there certain may l =
         let b = bound_as w.scope.names i in (
           subst (λ sq. Allowed g t (stacked m us) sq f (mode_of a) (slot w b.place)) there.2
-              (allowed g t w.tree w.params w.scope m ep (by_rules task) known kept facts b.static_type b.place f a us there.1
-              (region_as (by_rules task) w.params m.slots w.scope.names i named there.1) (placed_as w.params w.scope.names i kept.placed there.1)
+              (allowed g t w.tree w.params w.scope m ep (by_rules tops task) known kept facts b.static_type b.place f a us there.1
+              (region_as (by_rules tops task) w.params m.slots w.scope.names i named there.1) (placed_as w.params w.scope.names i kept.placed there.1)
               (subst (λ sq. f < length (space_at w.tree sq).fields) (sym there.2) l)
               (subst (λ r. may_do (rights_declared w.tree task) w.scope.known (wanting f a r) ≡ true)
               (sym (own_term w.scope.names b.number b.static_type there.1 (scoped_as w.scope.names w.scope.names i scoped there.1) ∙ ap term.Name there.0)) may.0)),
@@ -138,40 +138,30 @@ module _ (w : Where) (task : TaskTree) where
     allowed_reached _ f own a us (a_pointer_type k sp args rs aims) there certain may l = allowed_each sp f own a us rs there certain may l
 
     -- through the region of a part, which stands beside the pointer
-    allowed_part : (sp f place : ℕ) (a : Access) (us : List Shape) (p : ℕ) (c : Colour) →
-        IsPartBeside (by_rules task) w.params m.slots place sp (bound_as w.scope.names p) (parent_as w.scope.names p) →
+    allowed_beside : (sp f place : ℕ) (a : Access) (us : List Shape) (p : ℕ) (c : Colour) →
+        IsPartBeside (by_rules tops task) w.params m.slots place sp (bound_as w.scope.names p) (parent_as w.scope.names p) →
         may_do (rights_declared w.tree task) w.scope.known (wanting f a (term.Child p c)) ≡ true → f < length (space_at w.tree sp).fields →
         Allowed g t (stacked m us) sp f (mode_of a) (beside w place)
-    allowed_part sp f place a us p c h may l =
-        let names = w.scope.names in
-        let i = parent_of (bound_as names p).static_type in
-        let b = bound_as names i in
-        let own = scoped_as names names i scoped h.is_region in
-        let number = (region_found names i h.is_region).1 in
-        let there = region_as (by_rules task) w.params m.slots names i named h.is_region
-        ∙ ap Some (own_shape task w.params names b.static_type b.number i sp h.is_region own number h.space) in
-        allowed_within g t (stacked m us) sp f (beside w place) (slot w b.place) (mode_of a) (origin_in (by_rules task) w.params (term.Name i))
-        (named_one task w.params i) h.shape there
-        (allowed_over g t w.tree w.params w.scope m ep task known kept facts p c b.place sp f a us h.is_partition
-        (own_place task w.params names b.static_type b.number i b.place h.is_region own number (placed_as w.params names i kept.placed h.is_region)) there l may)
+    allowed_beside sp f place a us p c h may l =
+        allowed_part g t w.tree w.params w.scope m ep tops task known kept facts p c (beside w place) sp f a us h.is_partition h.shape l may
 
     pub allowed_through : (u : StaticType) (f place : ℕ) (a : Access) (us : List Shape) → IsPointer u → Aims w.scope.names (space_in u) (reaches_of u) →
-        HasPartBeside (by_rules task) w.params m.slots w.scope.names place u → has_wild (reaches_of u) ≡ false → MayEach (reaches_of u) f a →
+        HasPartBeside (by_rules tops task) w.params m.slots w.scope.names place u → has_wild (reaches_of u) ≡ false → MayEach (reaches_of u) f a →
         f < length (space_at w.tree (space_in u)).fields → Each (Allowed g t (stacked m us) (space_in u) f (mode_of a)) (slots_of w (own_slot w u place) u)
     allowed_through _ f place a us (a_pointer_type k sp args rs aims) there part certain may l = by rs aims there part certain may
       where
-        by : (rs : List Reach) → AreAims rs → Aims w.scope.names sp rs → HasPartBeside (by_rules task) w.params m.slots w.scope.names place (pointer_type k sp args rs) →
+        by : (rs : List Reach) → AreAims rs → Aims w.scope.names sp rs → HasPartBeside (by_rules tops task) w.params m.slots w.scope.names place (pointer_type k sp args rs) →
             has_wild rs ≡ false → MayEach rs f a → Each (Allowed g t (stacked m us) sp f (mode_of a)) (map (slot_of_reach w (beside w place)) rs)
         by [] aims there part certain may = tt
         by (Some (term.Name i) ∷ rs) aims there part certain may = allowed_each sp f (beside w place) a us (Some (term.Name i) ∷ rs) there certain may l
         by (Some (term.Child p c) ∷ rs) aims there part certain may =
             subst (λ qs. Each (Allowed g t (stacked m us) sp f (mode_of a)) (map (slot_of_reach w (beside w place)) (Some (term.Child p c) ∷ qs))) (sym aims)
-            (allowed_part sp f place a us p c part may.0 l, tt)
+            (allowed_beside sp f place a us p c part may.0 l, tt)
         by (None ∷ rs) aims there part certain may = allowed_each sp f (beside w place) a us (None ∷ rs) there certain may l
 
 -- ---- code
 
-module _ (g : Program) (t : TaskCode) (k : ℕ) (task : TaskTree) (w : Where) (m : Mark) (known : Known (by_rules task) g w.tree) (f : Name) (out : StaticType) where
+module _ (g : Program) (t : TaskCode) (k : ℕ) (tops : Tops) (task : TaskTree) (w : Where) (m : Mark) (known : Known (by_rules tops task) g w.tree) (f : Name) (out : StaticType) where
   abbrev place_of : StaticType → ℕ
   place_of u = field_place w.tree (space_in u) f
 
@@ -187,7 +177,7 @@ module _ (g : Program) (t : TaskCode) (k : ℕ) (task : TaskTree) (w : Where) (m
       let us1 : List Shape = pointer n ∷ us in
       let long = length-map rs (slot_of_reach w own) in
       subst (λ y. Marked g t k (stacked m us1) (one w (instr.Read (map (slot_of_reach w own) rs) fp)) (stacked m (y ∷ us)))
-      (field_shape g w.tree (by_rules task) known sp fp out keeps)
+      (field_shape g w.tree (by_rules tops task) known sp fp out keeps)
       (does g t k (stacked m us1) (instr.Read (map (slot_of_reach w own) rs) fp) w.line _
       (does_read (map (slot_of_reach w own) rs) fp sp n us (omega (arith, long), may us1)))
 
@@ -198,7 +188,7 @@ module _ (g : Program) (t : TaskCode) (k : ℕ) (task : TaskTree) (w : Where) (m
       Marked g t k (stacked m us) (load_code w u (slot w place) (field_step f rest) ⨟ (field_code w u own f ⨟ p)) (stacked m vs)
   reads_through _ place own rest p us vs (a_pointer_type c sp args rs names) there keeps may more =
       let n = length rs in
-      both g t k (does g t k (stacked m us) (instr.Load (slot w place)) w.line (pointer n ∷ us) (does_load (slot w place) (pointer n) us there (settled_number _ (numeric_pointer n))))
+      both g t k (does g t k (stacked m us) (instr.Load (slot w place)) w.line (pointer n ∷ us) (does_load (slot w place) (pointer n) us there (settled_number _ (numeric_pointer n)) tt))
       (both g t k (field_read (pointer_type c sp args rs) own us (a_pointer_type c sp args rs names) keeps may) more)
 
   pub writes_through : (u : StaticType) (own : ℕ) (us : List Shape) → IsPointer u → FieldKeeps (field_term w.tree (space_in u) (place_of u)) out → Allows u own mode.Write →
@@ -209,9 +199,9 @@ module _ (g : Program) (t : TaskCode) (k : ℕ) (task : TaskTree) (w : Where) (m
       let ss = map (slot_of_reach w own) rs in
       let us1 : List Shape = pointer n ∷ shape_of out ∷ us in
       let long = length-map rs (slot_of_reach w own) in
-      subst (λ y. Marked g t k (stacked m us1) (one w (instr.Write ss fp (width_of y))) (stacked m us)) (kind_same g w.tree (by_rules task) known sp fp)
+      subst (λ y. Marked g t k (stacked m us1) (one w (instr.Write ss fp (width_of y))) (stacked m us)) (kind_same g w.tree (by_rules tops task) known sp fp)
       (subst (λ y. Marked g t k (stacked m (pointer n ∷ y ∷ us)) (one w (instr.Write ss fp (width_of (kind_at g sp fp)))) (stacked m us))
-      (field_shape g w.tree (by_rules task) known sp fp out keeps)
+      (field_shape g w.tree (by_rules tops task) known sp fp out keeps)
       (does g t k (stacked m (pointer n ∷ shape_at g sp fp ∷ us)) (instr.Write ss fp (width_of (kind_at g sp fp))) w.line us
       (does_write ss fp sp n us (omega (arith, long), may (pointer n ∷ shape_at g sp fp ∷ us)))))
 
@@ -225,9 +215,9 @@ module _ (g : Program) (t : TaskCode) (k : ℕ) (task : TaskTree) (w : Where) (m
       let us1 : List Shape = pointer n ∷ a ∷ us in
       let long = length-map rs (slot_of_reach w own) in
       let wide = integer_shape out io in
-      subst (λ y. Marked g t k (stacked m us1) (one w (instr.Reduce ss fp o (width_of y))) (stacked m us)) (kind_same g w.tree (by_rules task) known sp fp)
+      subst (λ y. Marked g t k (stacked m us1) (one w (instr.Reduce ss fp o (width_of y))) (stacked m us)) (kind_same g w.tree (by_rules tops task) known sp fp)
       (does g t k (stacked m us1) (instr.Reduce ss fp o (width_of (kind_at g sp fp))) w.line us
-      (does_reduce ss fp sp n o wide.0 a us (field_shape g w.tree (by_rules task) known sp fp out keeps ∙ wide.1) na (omega (arith, long), may us1)))
+      (does_reduce ss fp sp n o wide.0 a us (field_shape g w.tree (by_rules tops task) known sp fp out keeps ∙ wide.1) na (omega (arith, long), may us1)))
     where
       integer_shape : (u : StaticType) → IsInteger u → (v : Width) × (shape_of u ≡ integer v)
       integer_shape _ (an_integer v) = (v, refl)

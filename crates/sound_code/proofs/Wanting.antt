@@ -155,7 +155,7 @@ module _ (w : Where) (n : Name) (e : Expression) (f : Name) (number : IsCounting
         by : (way : Way) → Ground t way w.tree w.params w.scope → Told way w.tree w.scope (access_expr n (at_step e (field_step f no_step))) →
             May way w.tree w.scope (bound w n).static_type (place (bound w n).static_type) access.Read
         by all_made g h = tt
-        by (by_rules task) g h = read_granted task g.sound h.0 h.1
+        by (by_rules tops task) g h = read_granted task g.sound h.0 h.1
 
     pub told_index : (o : How) (y : Expression) → ToldForm way w.tree w.scope (assign_form n (at_step e (field_step f no_step)) o y) →
         Told way w.tree w.scope e
@@ -164,7 +164,7 @@ module _ (w : Where) (n : Name) (e : Expression) (f : Name) (number : IsCounting
         by : (way : Way) → Ground t way w.tree w.params w.scope → ToldForm way w.tree w.scope (assign_form n (at_step e (field_step f no_step)) o y) →
             Told way w.tree w.scope e
         by all_made g h = tt
-        by (by_rules task) g h = (h.1.scope, (target_parts task g.sound o y h.1.scope h.1.form).0)
+        by (by_rules tops task) g h = (h.1.scope, (target_parts task g.sound o y h.1.scope h.1.form).0)
 
     pub may_write : (y : Expression) → ToldForm way w.tree w.scope (assign_form n (at_step e (field_step f no_step)) how.Set y) →
         May way w.tree w.scope (bound w n).static_type (place (bound w n).static_type) access.Write
@@ -173,7 +173,7 @@ module _ (w : Where) (n : Name) (e : Expression) (f : Name) (number : IsCounting
         by : (way : Way) → Ground t way w.tree w.params w.scope → ToldForm way w.tree w.scope (assign_form n (at_step e (field_step f no_step)) how.Set y) →
             May way w.tree w.scope (bound w n).static_type (place (bound w n).static_type) access.Write
         by all_made g h = tt
-        by (by_rules task) g h =
+        by (by_rules tops task) g h =
             let parts = target_parts task g.sound how.Set y h.1.scope h.1.form in
             granted task g.sound h.1.scope parts.0 (bound w n).static_type is access.Write parts.1
             (not_lacking w.tree task w.scope (assign_form n (at_step e (field_step f no_step)) how.Set y) h.1.form).0
@@ -185,7 +185,7 @@ module _ (w : Where) (n : Name) (e : Expression) (f : Name) (number : IsCounting
         by : (way : Way) → Ground t way w.tree w.params w.scope → ToldForm way w.tree w.scope (assign_form n (at_step e (field_step f no_step)) (how.Reduce o) y) →
             May way w.tree w.scope (bound w n).static_type (place (bound w n).static_type) (access.Reduce o)
         by all_made g h = tt
-        by (by_rules task) g h =
+        by (by_rules tops task) g h =
             let parts = target_parts task g.sound (how.Reduce o) y h.1.scope h.1.form in
             granted task g.sound h.1.scope parts.0 (bound w n).static_type is (access.Reduce o) parts.1
             (not_lacking w.tree task w.scope (assign_form n (at_step e (field_step f no_step)) (how.Reduce o) y) h.1.form).1
@@ -195,13 +195,13 @@ module _ (w : Where) (n : Name) (e : Expression) (f : Name) (number : IsCounting
 -- each of these fields of a region of a type may be written
 abbrev pub MayFill : Way → Tree → Scope → StaticType → List Name → Type 0
 MayFill all_made tree s u fs = Unit {0}
-MayFill (by_rules task) tree s u fs = (f : Name) → Has fs f → has_field tree (space_in u) f ≡ true →
+MayFill (by_rules tops task) tree s u fs = (f : Name) → Has fs f → has_field tree (space_in u) f ≡ true →
     may_do (rights_declared tree task) s.known (wanting (field_place tree (space_in u) f) access.Write (term_in u)) ≡ true
 
 pub may_fill : (way : Way) (w : Where) (r : Name) (fs : List Name) (e : Expression) → IsRegion (bound w r).static_type →
     ToldForm way w.tree w.scope (fill_form r fs e) → MayFill way w.tree w.scope (bound w r).static_type fs
 may_fill all_made w r fs e is h = tt
-may_fill (by_rules task) w r fs e is h = each (bound w r).static_type is (not_lacking w.tree task w.scope (fill_form r fs e) h.1.form).0
+may_fill (by_rules tops task) w r fs e is h = each (bound w r).static_type is (not_lacking w.tree task w.scope (fill_form r fs e) h.1.form).0
   where
     each : (u : StaticType) → IsRegion u → lacks w.tree task w.scope (flat_map (wanted_of_region w.tree access.Write u) fs) ≡ false →
         (f : Name) → Has fs f → has_field w.tree (space_in u) f ≡ true →
@@ -217,7 +217,7 @@ pub may_fill_first : (way : Way) (tree : Tree) (s : Scope) (u : StaticType) (f :
     field_place tree (space_in u) f < length (space_at tree (space_in u)).fields →
     May way tree s u (field_place tree (space_in u) f) access.Write × MayFill way tree s u fs
 may_fill_first all_made tree s u f fs h l = (tt, tt)
-may_fill_first (by_rules task) tree s u f fs h l =
+may_fill_first (by_rules tops task) tree s u f fs h l =
     (h f (inl refl) (below_any (λ (p : Param). bytes_eq p.name f) (space_at tree (space_in u)).fields l), λ k i. h k (inr i))
 
 -- ---- fields that partitions are made by
@@ -229,7 +229,7 @@ pub may_scan : (way : Way) (w : Where) (x : Name) (st : Option TypeTerm) (r f : 
     ToldForm way w.tree w.scope (var_form x st (Some init)) →
     May way w.tree w.scope (bound w r).static_type (field_place w.tree (space_in (bound w r).static_type) f) access.Read
 may_scan all_made w x st r f init is l same h = tt
-may_scan (by_rules task) w x st r f init is l same h =
+may_scan (by_rules tops task) w x st r f init is l same h =
     of (bound w r).static_type is l (subst (λ ws. lacks w.tree task w.scope ws ≡ false) same (rule_none _ rule.Read (scanned h.1.form)))
   where
     scanned : first_of_form w.tree task w.scope (var_form x st (Some init)) ≡ None →

@@ -1,6 +1,6 @@
 -- What is asked of a task inside the proof: each name that is read has a number, a truth, an index, an index space or a pointer, which goes
 -- into few regions. Regions stand where elements are taken of them, where they are handed over or gone through; partitions where
--- their colours are had, where they or their parts are handed over or gone through, or others are made of them.
+-- their colours are had, where they or their parts are handed over or gone through, where variables begin as parts, or others are made of them.
 use Rattle.std.specs.Prelude.{Bool, true, false, not, List, [], ◌∷◌, ◌&&◌, ◌||◌, length, nat_le, Some, None}
 use Rattle.std.specs.List.{list_all}
 use Rattle.regent_tree.specs.StaticTypes.{task_named}
@@ -13,7 +13,6 @@ use Rattle.code_rules.specs.Instructions.{tasks_of}
 use Rattle.code_rules.specs.Programs.{place_of}
 use Rattle.code_rules.specs.Slots.{bound, typed, Where}
 use Rattle.code_rules.specs.Statements.{after_arm, after_arms, after_form, looping, on_line}
-use Rattle.sound_code.specs.FreeCalls.{are_free}
 
 -- a number, a truth, an index, an index space, or a pointer; where that is asked (`few`), its type names at most four regions,
 -- which is the limit of a text
@@ -43,8 +42,7 @@ abbrev mutual
   is_whole_expression few w (access_expr n (field_step f rest)) = true
   is_whole_expression few w (access_expr n (at_step e no_step)) = is_region (bound w n).static_type && is_whole_expression few w e
   is_whole_expression few w (access_expr n (at_step e (field_step f rest))) = is_whole_expression few w e
-  is_whole_expression few w (call_expr task args) =
-      are_whole_arguments few w (param_types w.tree (task_named w.tree task)) args && are_free (task_named w.tree task) args
+  is_whole_expression few w (call_expr task args) = are_whole_arguments few w (param_types w.tree (task_named w.tree task)) args
   is_whole_expression few w (convert_expr t e) = is_whole_expression few w e
   is_whole_expression few w (space_expr k e) = is_whole_expression few w e
   is_whole_expression few w (is_null_expr e) = is_whole_expression few w e
@@ -83,7 +81,8 @@ is_whole_domain few w e = names_region w e || (takes_part few w e || is_whole_ex
 abbrev mutual
   pub is_whole_form : Bool → Where → Form → Bool
   is_whole_form few w (var_form n None (Some (plain_initializer e))) =
-      is_partition (typed w e) || (is_value few (var_type w.tree w.scope None (Some (plain_initializer e))) && is_whole_expression few w e)
+      is_partition (typed w e)
+      || (takes_part few w e || (is_value few (var_type w.tree w.scope None (Some (plain_initializer e))) && is_whole_expression few w e))
   is_whole_form few w (var_form n (Some t) (Some (plain_initializer e))) =
       is_value few (var_type w.tree w.scope (Some t) (Some (plain_initializer e))) && is_whole_expression few w e
   is_whole_form few w (var_form n t (Some (region_initializer e u))) = is_whole_expression few w e
@@ -104,8 +103,7 @@ abbrev mutual
   is_whole_form few w (fill_form r fields e) = is_whole_expression few w e
   is_whole_form few w (assert_form e) = is_whole_expression few w e
   is_whole_form few w (print_form alias format args) = are_whole_expressions few w args
-  is_whole_form few w (call_form task args) =
-      are_whole_arguments few w (param_types w.tree (task_named w.tree task)) args && are_free (task_named w.tree task) args
+  is_whole_form few w (call_form task args) = are_whole_arguments few w (param_types w.tree (task_named w.tree task)) args
   is_whole_form few w (assign_form n no_step h e) = is_value few (bound w n).static_type && is_whole_expression few w e
   is_whole_form few w (assign_form n (field_step f rest) h y) = is_whole_expression few w y
   is_whole_form few w (assign_form n (at_step e (field_step f rest)) h y) = is_whole_expression few w e && is_whole_expression few w y

@@ -4,7 +4,9 @@ use Rattle.std.proofs.Common.{◌≡◌, ◌⊎◌, inl, inr, ℕ, ◌≤◌, Bo
 use Rattle.std.specs.Prelude.{length}
 use Rattle.std.proofs.lemmas.Bool.{and_parts, false≢true, leb-true, or_cases}
 use Rattle.regent_tree.specs.Syntax.{access_expr, at_step, Expression, field_step, Name, no_step, Steps}
-use Rattle.regent_tree.specs.Typing.{owned, reaches_of, stepped_type, type_of_field}
+use Rattle.regent_tree.specs.Scopes.{bound_as}
+use Rattle.regent_tree.specs.Typing.{child_type, owned, reaches_of, stepped_type, type_of_element, type_of_field}
+use Rattle.regent_tree.specs.declared.facts.Term.{Term}
 use Rattle.regent_tree.specs.declared.types.Kind.{Kind}
 use Rattle.regent_tree.specs.declared.typing.Bound.{Bound}
 use Rattle.regent_tree.specs.declared.typing.StaticType.{StaticType}
@@ -245,7 +247,6 @@ owned_same n _ (kept_pointer _ (a_pointer_type k sp args rs names)) = refl
 pub kept_of : (b : Bool) (w : Where) (e : Expression) → IsKeepable b w e → IsKept (typed w e)
 kept_of b w e h = ⊎_elim (λ s. kept_simple (typed w e) s) (λ p. kept_pointer (typed w e) p.0) (keepable b w e h)
 
--- how a variable begins: with such a value, or a difference of partitions
 kept_no_cut : (t : StaticType) → IsKept t → is_partition t ≡ true → ⊥
 kept_no_cut _ (kept_simple _ (simple_integer w)) e = false≢true e
 kept_no_cut _ (kept_simple _ simple_truth) e = false≢true e
@@ -254,28 +255,59 @@ kept_no_cut _ (kept_simple _ (simple_space k)) e = false≢true e
 kept_no_cut _ (kept_pointer _ (a_pointer_type k sp args rs names)) e = false≢true e
 
 -- a part is no such value, nor a partition
-no_region_kept : (n : ℕ) (v : Bool) (t : StaticType) → IsRegion t → (is_partition t || (is_value true (owned n t) && v)) ≡ true → ⊥
-no_region_kept n v _ (a_region_type k sp args r) e = false≢true e
+no_region_kept : (n : ℕ) (v : Bool) (t : StaticType) → IsRegion t → (is_partition t ≡ true) ⊎ ((is_value true (owned n t) && v) ≡ true) → ⊥
+no_region_kept n v _ (a_region_type k sp args r) (inl e) = false≢true e
+no_region_kept n v _ (a_region_type k sp args r) (inr e) = false≢true e
 
-no_part_begins : (o : Option Taking) (w : Where) (e : Expression) (v : Bool) (Part : Type 0) → BeginsAsPart o w e Part →
-    (is_partition (typed w e) || (is_value true (owned w.scope.next (typed w e)) && v)) ≡ true → ⊥
-no_part_begins o w (access_expr n (at_step e no_step)) v Part d h =
-    no_region_kept w.scope.next v (typed w (access_expr n (at_step e no_step))) d.0.2 h
-no_part_begins o w _ v Part d h = absurd d
+unknown_no_kept : IsKept unknown_type → ⊥
+unknown_no_kept (kept_simple _ s) = elim s [ ]
+unknown_no_kept (kept_pointer _ s) = elim s [ ]
 
+child_no_kept : (u : StaticType) (t : Term) → IsKept (child_type u t) → ⊥
+child_no_kept (region_type k sp args r) t (kept_simple _ s) = elim s [ ]
+child_no_kept (region_type k sp args r) t (kept_pointer _ s) = elim s [ ]
+child_no_kept (integer_type w) t k = unknown_no_kept k
+child_no_kept truth_type t k = unknown_no_kept k
+child_no_kept (index_type c) t k = unknown_no_kept k
+child_no_kept (pointer_type c sp args rs) t k = unknown_no_kept k
+child_no_kept (ispace_type c) t k = unknown_no_kept k
+child_no_kept (partition_type d r p) t k = unknown_no_kept k
+child_no_kept no_type t k = unknown_no_kept k
+child_no_kept unknown_type t k = unknown_no_kept k
+
+part_no_kept : (w : Where) (e : Expression) → takes_part true w e ≡ true → IsKept (typed w e) → ⊥
+part_no_kept w (access_expr n (at_step e no_step)) h k = of (bound w n).static_type (and_parts _ _ h).0 k
+  where
+    of : (u : StaticType) → is_partition u ≡ true → IsKept (type_of_element w.scope u e) → ⊥
+    of (partition_type d r p) q k = child_no_kept (bound_as w.scope.names r).static_type _ k
+    of _ q k = absurd (false≢true q)
+part_no_kept w _ h k = absurd (false≢true h)
+
+part_begins : (o : Option Taking) (w : Where) (e : Expression) (v : Bool) (Part : Type 0) → BeginsAsPart o w e Part →
+    (is_partition (typed w e) || (takes_part true w e || (is_value true (owned w.scope.next (typed w e)) && v))) ≡ true → takes_part true w e ≡ true
+part_begins o w (access_expr n (at_step e no_step)) v Part d h =
+    let y = access_expr n (at_step e no_step) in
+    ⊎_elim (λ c. absurd (no_region_kept w.scope.next v (typed w y) d.0.2 (inl c)))
+    (λ q. ⊎_elim (λ c. c) (λ c. absurd (no_region_kept w.scope.next v (typed w y) d.0.2 (inr c))) (or_cases (takes_part true w y) _ q))
+    (or_cases (is_partition (typed w y)) _ h)
+part_begins o w _ v Part d h = absurd d
+
+-- how a variable begins: with such a value, a difference of partitions, or as a part
 pub begun_whole : (b : Bool) (o : Option Taking) (w : Where) (e : Expression) (v : Bool) (Typed Part : Type 0) →
     IsBegun b w e (IsKeepable b w e × Typed) (BeginsAsPart o w e Part) →
-    Asks b (is_partition (typed w e) || (is_value true (owned w.scope.next (typed w e)) && v)) →
-    ((IsKeepable b w e × Typed) × Asks b (is_value true (owned w.scope.next (typed w e)) && v)) ⊎ ((b ≡ true) × IsDifference w e)
+    Asks b (is_partition (typed w e) || (takes_part true w e || (is_value true (owned w.scope.next (typed w e)) && v))) →
+    ((IsKeepable b w e × Typed) × Asks b (is_value true (owned w.scope.next (typed w e)) && v))
+    ⊎ ((b ≡ true) × (IsDifference w e ⊎ (BeginsAsPart o w e Part × (takes_part true w e ≡ true))))
 begun_whole false o w e v Typed Part p h = inl (p, not_kept false (is_value true (owned w.scope.next (typed w e)) && v) refl)
 begun_whole true o w e v Typed Part (inl p) h =
     inl (
       p,
-      λ q. ⊎_elim (λ c. absurd (kept_no_cut (typed w e) (kept_of true w e p.0) c)) (λ y. y)
-          (or_cases (is_partition (typed w e)) (is_value true (owned w.scope.next (typed w e)) && v) (h q)),
+      λ q. ⊎_elim (λ c. absurd (kept_no_cut (typed w e) (kept_of true w e p.0) c))
+          (λ y. ⊎_elim (λ c. absurd (part_no_kept w e c (kept_of true w e p.0))) (λ y. y) (or_cases (takes_part true w e) _ y))
+          (or_cases (is_partition (typed w e)) _ (h q)),
     )
-begun_whole true o w e v Typed Part (inr (inl d)) h = inr (refl, d)
-begun_whole true o w e v Typed Part (inr (inr d)) h = absurd (no_part_begins o w e v Part d (h refl))
+begun_whole true o w e v Typed Part (inr (inl d)) h = inr (refl, inl d)
+begun_whole true o w e v Typed Part (inr (inr d)) h = inr (refl, inr (d, part_begins o w e v Part d (h refl)))
 
 -- a part that a variable begins as
 region_few : (t : StaticType) → IsRegion t → HasFew t

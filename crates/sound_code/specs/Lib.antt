@@ -7,3 +7,5 @@ pub mod RulesExample
 pub mod HandingExample
 pub mod WholeExample
 pub mod CutsExample
+pub mod SiblingsExample
+pub mod PiecesExample

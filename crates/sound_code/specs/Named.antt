@@ -12,8 +12,8 @@ use Rattle.task_code.specs.declared.code.Line.{Line}
 use Rattle.task_code.specs.declared.code.TaskCode.{TaskCode}
 use Rattle.machine_terms.specs.Jumps.{fetch}
 use Rattle.code_rules.specs.Used.{slots_used}
-use Rattle.fit_rules.specs.Shapes.{Among, cut_from, Each, Shape, anything, region, Origin, own_as, part}
-use Rattle.fit_rules.specs.Marks.{apart, counts, Fact, in_slot, lies, Mark, parted}
+use Rattle.fit_rules.specs.Shapes.{Among, cut_from, Each, Shape, anything, child_at, held_at, region, Origin, own_as, part}
+use Rattle.fit_rules.specs.Marks.{any_colour, apart, child_in, Colour, colour_in, counts, Fact, in_slot, lies, Mark, parted, point_in, the_colour}
 use Rattle.sound_code.specs.Ways.{Way, origin_in, shape_in}
 
 -- the slot of a place
@@ -30,18 +30,31 @@ AreNamed way params ss (b ∷ bs) = (b.place ≡ length bs)
 abbrev pub HasSlots : TaskCode → ℕ → Type 0
 HasSlots t n = (pc : ℕ) (l : Line) → fetch t.body pc ≡ Some l → slots_used l.instr ≤ n
 
+-- a colour that names no slot
+abbrev pub IsWrittenColour : Colour → Type 0
+IsWrittenColour (the_colour z) = Unit {0}
+IsWrittenColour (colour_in s) = ⊥
+IsWrittenColour (point_in s) = ⊥
+IsWrittenColour any_colour = Unit {0}
+
 -- A fact of a loop over points: its counter, beside the slot of its variable, and its domain, behind. Or one of
--- regions that are parameters. Or of which name's region another name's partition is.
+-- regions that are parameters. Or of which name's region another name's partition is, or within which another name's
+-- region lies, which began as a part, and which child of a partition that is.
 pub data IsSteady (params n : ℕ) : Fact → Type 0 where
   is_count : (p : ℕ) → params ≤ p → p < n → IsSteady params n (counts (slot_at params p + 1) (slot_at params p + 2))
   is_within : (i j : ℕ) → i < params → j < params → IsSteady params n (lies (in_slot i) (in_slot j))
   is_apart : (i j : ℕ) → i < params → j < params → IsSteady params n (apart (in_slot i) (in_slot j))
   is_parted : (i j : ℕ) → i < n → j < n → IsSteady params n (parted (slot_at params i) (slot_at params j))
+  is_piece : (i p : ℕ) (c : Colour) → i < n → p < n → IsWrittenColour c →
+      IsSteady params n (lies (in_slot (slot_at params i)) (child_in (slot_at params p) c))
+  is_begun : (i j : ℕ) → i < n → j < n → IsSteady params n (lies (in_slot (slot_at params i)) (in_slot (slot_at params j)))
 
 -- what has a shape is of a root that was made under the number of a name, if under any
 abbrev pub IsOfNumber : List Bound → Origin → Type 0
 IsOfNumber bs (own_as i) = Among (map (λ (b : Bound). b.number) bs) i
 IsOfNumber bs (part o) = IsOfNumber bs o
+IsOfNumber bs (child_at s c o) = IsOfNumber bs o
+IsOfNumber bs (held_at s o) = IsOfNumber bs o
 IsOfNumber bs o = Unit {0}
 
 abbrev pub IsNumbered : List Bound → Shape → Type 0
@@ -74,8 +87,9 @@ HavePartsBeside way params ss [] = Unit {0}
 HavePartsBeside way params ss (b ∷ bs) = HasPartBeside way params ss bs b.place b.static_type × HavePartsBeside way params ss bs
 
 -- A mark stands between two statements: the names have their shapes, of the slots behind those of the
--- names nothing is known, roots are those of names, and facts speak of the counters of loops around, of parameters, and
--- of the partitions that names have. Beside pointers into parts stand the parts.
+-- names nothing is known, roots are those of names, and facts speak of the counters of loops around, of parameters, of
+-- the partitions that names have, and of regions that began as parts. Beside pointers into parts stand the parts. The slots of names
+-- stay as they are while something stands on the stack.
 pub record Ready (way : Way) (params : ℕ) (bs : List Bound) (m : Mark) : Type 0 where
   pub named : AreNamed way params m.slots bs
   pub beside : HavePartsBeside way params m.slots bs
@@ -84,6 +98,7 @@ pub record Ready (way : Way) (params : ℕ) (bs : List Bound) (m : Mark) : Type 
   pub numbered : Each (IsNumbered bs) m.slots
   pub facts : Each (IsSteady params (length bs)) m.facts
   pub low : params ≤ length bs
+  pub fixed : m.fixed ≡ slot_at params (length bs)
 
 -- shapes tell at least what others tell
 pub data Narrower : List Shape → List Shape → Type 0 where

@@ -36,7 +36,7 @@ use Rattle.fit_laws.specs.Segments.{PassesTest}
 use Rattle.check_rules.specs.Breaches.{breaches}
 use Rattle.fit_rules.specs.Marks.{Holds}
 use Rattle.sound_code.specs.FreeCalls.{is_free_program}
-use Rattle.sound_code.specs.Ways.{by_rules, opening_facts, shape_in, shape_of}
+use Rattle.sound_code.specs.Ways.{by_rules, none_begun, opening_facts, shape_in, shape_of}
 
 -- the entry task's code
 abbrev pub entry_code : Tree → TaskCode
@@ -56,6 +56,7 @@ first_world inputs = record {
   own = [];
   last = λ i. None;
   args = map Number inputs;
+  held = [];
 }
 
 -- the frame in which the run of a job begins fits, whatever its inputs and turns
@@ -137,11 +138,11 @@ CallsAreSound = (tree : Tree) → AreTypedTasks tree → TasksRunSoundly tree
 
 -- the shapes of a task's arguments, where its regions are given to it
 abbrev pub argument_shapes : Tree → TaskTree → List Shape
-argument_shapes tree t = map (shape_in (by_rules t) (length t.params)) (param_types tree t)
+argument_shapes tree t = map (shape_in (by_rules none_begun t) (length t.params)) (param_types tree t)
 
 -- what a task's clauses tell of its arguments holds of them, and each partition is of the region that its type names
 abbrev pub AreConstrained : Tree → TaskTree → List Value → Type 0
-AreConstrained tree t args = Each (λ f. Holds f args) (opening_facts (by_rules t) tree t)
+AreConstrained tree t args = Each (λ f. Holds f args) (opening_facts (by_rules none_begun t) tree t)
 
 -- The code of each task is sound and so never breaks, and 0 is one of its results. The frame of a task fits when it opens
 -- with any values of its parameters' types, regions among them, of which its constraints hold, around any roots, at any
@@ -179,8 +180,7 @@ pub record LocalRunsSoundly (tree : Tree) (inputs : List ℤ) : Type 0 where
 abbrev pub LocalProgramsAreSound : Type 0
 LocalProgramsAreSound = (tree : Tree) (inputs : List ℤ) → IsPlainProgramRun tree inputs → LocalRunsSoundly tree inputs
 
--- one of the whole local form, in no call of which a constraint speaks of two parts of one partition, no variable of which begins as a
--- part, and whose fills each name a field, as those of a text do
+-- one of the whole local form, whose fills each name a field, as those of a text do
 pub record IsWholeProgramRun (tree : Tree) (inputs : List ℤ) : Type 0 where
   pub run : IsLocalProgramRun tree inputs
   pub free : is_free_program tree ≡ true

@@ -63,6 +63,7 @@ one_root = record {
   own = [];
   last = λ i. None;
   args = [];
+  held = [];
 }
 
 abbrev pub raise_before : Before

@@ -6,8 +6,10 @@
 ghost use Rattle.sound_code.specs.CutsExample.{CutsExampleHolds};
 ghost use Rattle.sound_code.specs.Example.{CodeExampleHolds};
 ghost use Rattle.sound_code.specs.HandingExample.{HandedIsSound, HandsExampleHolds};
+ghost use Rattle.sound_code.specs.PiecesExample.{PiecesExampleHolds};
 ghost use Rattle.sound_code.specs.RulesExample.{HistogramIsSound, RulesExampleHolds};
 ghost use Rattle.sound_code.specs.Programs.{AcceptedTasksAreSound, CallsAreSound, HandingTasksAreSound, LocalProgramsAreSound, RegionTasksAreSound, ScalarProgramsAreSound, ScalarTasksAreSound, WholeProgramsAreSound};
+ghost use Rattle.sound_code.specs.SiblingsExample.{SiblingsExampleHolds};
 ghost use Rattle.sound_code.specs.WholeExample.{CircuitIsSound, WholeExampleHolds};
 
 /// Where the entry task's body is typed and treats scalars alone, its code is sound, and the frame in which
@@ -53,9 +55,9 @@ pub fn local_programs_are_sound()
     ensures { LocalProgramsAreSound }
 {}
 
-/// So is the code of each accepted program of the local form in no call of which a constraint speaks of two parts of one
-/// partition, and no variable of which begins as a part: indices and pointers are kept, handed over and had in fields, through pointers fields are read, written and reduced,
-/// loops go over regions and parts of partitions, and partitions are made, also of others, and handed over, as their parts are.
+/// So is the code of each accepted program of the local form whose fills each name a field: indices and
+/// pointers are kept, handed over and had in fields, through pointers fields are read, written and reduced, loops go over regions and
+/// parts of partitions, partitions are made, also of others, and handed over, as their parts are, and variables begin as parts.
 #[tactic(auto, using(crate::proofs::Rules::whole_programs_are_sound))]
 pub fn whole_programs_are_sound()
     ensures { WholeProgramsAreSound }
@@ -96,4 +98,17 @@ pub fn whole_example_holds()
 #[tactic(auto, using(crate::proofs::CutsExample::cuts_example_holds))]
 pub fn cuts_example_holds()
     ensures { CutsExampleHolds }
+{}
+
+/// An accepted program in whose calls constraints speak of two parts of one partition, of which each premise holds.
+#[tactic(auto, using(crate::proofs::SiblingsExample::siblings_example_holds))]
+pub fn siblings_example_holds()
+    ensures { SiblingsExampleHolds }
+{}
+
+/// An accepted program of which variables begin as parts, which are filled, handed over and cut further, of which each premise
+/// holds.
+#[tactic(auto, using(crate::proofs::PiecesExample::pieces_example_holds))]
+pub fn pieces_example_holds()
+    ensures { PiecesExampleHolds }
 {}
