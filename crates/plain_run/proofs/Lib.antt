@@ -1,2 +1,4 @@
+mod Answered
 mod Calling
+mod Serving
 mod Resuming

@@ -1,5 +1,6 @@
 -- What follows for a holder of parts, beside what follows for its instance.
-use Rattle.std.proofs.Common.{◌≡◌, ◌<◌, ◌-◌, ◌++◌, ℕ, Bool, true, false, cond, List, [], ◌∷◌, Option, Some, None, refl, sym, ap, subst, ◌∙◌, length}
+use Rattle.std.proofs.Common.{◌≡◌, ◌<◌, ◌-◌, ◌++◌, ℕ, ℤ, pos, Bool, true, false, cond, List, [], ◌∷◌, Option, Some, None, refl, sym, ap, subst, ◌∙◌, append-nil, get_or, inl, length}
+use Rattle.std.proofs.lemmas.List.Elements.{All-nil}
 use Rattle.plain_values.specs.Points.{points}
 use Rattle.region_tree.specs.declared.tree.RootId.{RootId}
 use Rattle.regent_tree.specs.Store.{new_root}
@@ -21,13 +22,18 @@ use Rattle.machine_terms.specs.declared.value.Value.TheVariants as value
 use Rattle.machine_terms.specs.Contents.{kinds_of, with_root}
 use Rattle.machine_terms.specs.Copies.{give_parts}
 use Rattle.machine_terms.specs.Makes.{fields_needed, is_sound, make_partition, region_with, root_needs, root_requirements}
-use Rattle.machine_terms.specs.Orders.{Runner, await, before_of, breaks, call_all, conclude, fetch_part, give_all, make, resume, resume_after, resume_in, run_segments, with_parts}
+use Rattle.machine_terms.specs.Orders.{Runner, before_of, breaks, call_all, conclude, fetch_part, give_all, make, resume_after, run_segments, with_parts}
 use Rattle.machine_terms.specs.Segments.{segment}
 use Rattle.plain_store.specs.declared.holder.Holder.{Holder}
 use Rattle.plain_store.specs.declared.holder.Next.{Next}
 use Rattle.plain_store.specs.declared.loan.Loan.{Loan}
 use Rattle.plain_store.specs.Loans.{AreLent, Follows, GoesOnAs, Stands, whole, with_loans}
+use Rattle.segment_regions.proofs.Pendings.{segments_ask_no_other}
+use Rattle.plain_run.specs.Answers.{KeptAnswers, LetGo, Serves, await_answer, resume_after_by, resume_by, resume_in_by, with_numbers, with_results}
+use Rattle.plain_run.specs.declared.answers.Answer.{Answer}
+use Rattle.plain_run.proofs.Answered.{serves_fewer, serves_more, serves_still}
 use Rattle.plain_run.proofs.Calling.{segment_last, segment_next}
+use Rattle.plain_run.proofs.Serving.{AsksNoMore, after, asks_behind, behind, follows_behind}
 use Rattle.plain_store.proofs.Lending.{kept_made, made_beside}
 
 -- ---- a segment tells how an instance ended by the roots of its frame alone
@@ -43,17 +49,17 @@ conclude_with_roots (yield.Make m) i f e = refl
 conclude_with_roots (yield.Fault k) i f e = refl
 conclude_with_roots yield.MachineFault i f e = refl
 
-resume_in_with_roots : (code : Code) (turns : ℕ) (child : Runner) (o : Option Frame) (y : Yield)
+resume_in_with_roots : (kept : List Answer) (code : Code) (turns : ℕ) (child : Runner) (o : Option Frame) (y : Yield)
     (i : Instance) (f : Frame) → f.own ≡ i.frame.own →
-    resume_in code turns child o y (record i { frame = f }) ≡ resume_in code turns child o y i
-resume_in_with_roots code turns child (Some g) y i f e = refl
-resume_in_with_roots code turns child None y i f e = ap resumed.IsOver (conclude_with_roots y i f e)
+    resume_in_by kept code turns child o y (record i { frame = f }) ≡ resume_in_by kept code turns child o y i
+resume_in_with_roots kept code turns child (Some g) y i f e = refl
+resume_in_with_roots kept code turns child None y i f e = ap resumed.IsOver (conclude_with_roots y i f e)
 
-pub resumes_with_roots : (code : Code) (turns : ℕ) (child : Runner) (a : After) (i : Instance) (f : Frame) →
-    f.own ≡ i.frame.own → resume_after code turns child a (record i { frame = f; parts = [] })
-    ≡ resume_after code turns child a i
-resumes_with_roots code turns child a i f e =
-    resume_in_with_roots code turns child a.frame a.ends (with_parts a i) f e
+pub resumes_with_roots : (kept : List Answer) (code : Code) (turns : ℕ) (child : Runner) (a : After) (i : Instance) (f : Frame) →
+    f.own ≡ i.frame.own → resume_after_by kept code turns child a (record i { frame = f; parts = [] })
+    ≡ resume_after_by kept code turns child a i
+resumes_with_roots kept code turns child a i f e =
+    resume_in_with_roots kept code turns child a.frame a.ends (with_parts a i) f e
 
 -- ---- what follows
 
@@ -61,9 +67,9 @@ pub nothing_lent : (r : Resumed) → Follows (with_loans [] r) r
 nothing_lent (resumed.GoesOn i) = record { contents = i.contents; instance = refl; stands = refl }
 nothing_lent (resumed.IsOver e) = refl
 
-pub awaited_follows : (ls : List Loan) (n : ℕ) (i : Instance) (c : Contents) → AreLent ls c i.contents →
-    Follows (with_loans ls (resumed.GoesOn (await n i))) (resumed.GoesOn (await n (record i { contents = c })))
-awaited_follows ls n i c h = record { contents = c; instance = refl; stands = h }
+pub awaited_follows : (kept : List Answer) (ls : List Loan) (n : ℕ) (i : Instance) (c : Contents) → AreLent ls c i.contents →
+    Follows (with_loans ls (resumed.GoesOn (await_answer kept n i))) (resumed.GoesOn (await_answer kept n (record i { contents = c })))
+awaited_follows kept ls n i c h = record { contents = c; instance = refl; stands = h }
 
 pub made_follows : (ls : List Loan) (code : Code) (m : Made) (i : Instance) (c : Contents) →
     AreLent ls c i.contents → Follows (with_loans ls (make code m i)) (make code m (record i { contents = c }))
@@ -92,36 +98,91 @@ made_follows ls code (made.Partition r sets disjoint) i c h = go (is_sound r.poi
 
 -- ---- segment after segment
 
--- a holder from which an instance ends so, within so many segments
-pub record RunsOn (code : Code) (turns : ℕ) (child : Runner) (left : ℕ) (now : Holder) (total : Ended) : Type 0 where
+-- a holder and answers from which an instance, with the values of all its children, ends so within so many segments
+pub record RunsOn (code : Code) (turns : ℕ) (child : Runner) (left : ℕ) (now : Holder) (answers : KeptAnswers) (total : Ended) : Type 0 where
   pub contents : Contents
+  pub results : List ℤ
   pub stands : Stands contents now
-  pub ends : run_segments code turns child left (whole contents now) ≡ total
+  pub none : now.instance.results ≡ []
+  pub serves : Serves answers now.instance.frame results
+  pub ends : run_segments code turns child left (with_results results (whole contents now)) ≡ total
 
 module _ (code : Code) (turns : ℕ) (child : Runner) where
-  abbrev behind : Contents → Holder → Resumed
-  behind c h = resume_after code turns child (segment (before_of code h.instance)) (whole c h)
+  abbrev stopped : Holder → After
+  stopped h = segment (before_of code h.instance)
 
-  pub holder_next : (left : ℕ) (now next : Holder) (total : Ended) → 0 < left →
-      (r : RunsOn code turns child left now total) → GoesOnAs next (behind r.contents now) →
-      RunsOn code turns child (left - 1) next total
-  holder_next left now next total l r f = record {
-    contents = f.contents;
-    stands = f.stands;
-    ends = segment_next code turns child left (whole r.contents now) (whole f.contents next) total l
-        (sym f.instance) r.ends;
-  }
+  -- what follows by the answers, and what follows with all values
+  abbrev by_answers : List Answer → Contents → Holder → Resumed
+  by_answers kept c h = resume_after_by kept code turns child (stopped h) (whole c h)
 
-  pub holder_last : (left : ℕ) (now : Holder) (over total : Ended) → 0 < left →
-      (r : RunsOn code turns child left now total) → behind r.contents now ≡ resumed.IsOver over → over ≡ total
-  holder_last left now over total l r f =
-      segment_last code turns child left (whole r.contents now) over total l (sym f) r.ends
+  with_all : (rs : List ℤ) (i : Instance) → i.results ≡ [] → with_results rs i ≡ after rs i
+  with_all rs i none = ap (λ (zs : List ℤ). with_results zs i) (sym (ap (λ (zs : List ℤ). rs ++ zs) none ∙ append-nil rs))
+
+  all_follows : (answers : KeptAnswers) (rs : List ℤ) (c : Contents) (h : Holder) → h.instance.results ≡ [] →
+      Serves answers h.instance.frame rs →
+      resume_after code turns child (stopped h) (with_results rs (whole c h)) ≡ behind rs (by_answers answers.kept c h)
+  all_follows answers rs c h none serves =
+      ap (resume_after code turns child (stopped h)) (with_all rs (whole c h) none)
+      ∙ follows_behind code turns child answers.kept rs (stopped h) (whole c h) (λ f e n had.
+      serves.told n (segments_ask_no_other (before_of code h.instance) f n e (inl (inl had)))
+      ∙ ap (λ (zs : List ℤ). get_or zs n (pos 0)) (sym (ap (λ (zs : List ℤ). rs ++ zs) none ∙ append-nil rs)))
+
+  -- Behind a segment the values of children that came back last are put to those that are kept.
+  pub holder_next : (left : ℕ) (now next kept : Holder) (answers more : KeptAnswers) (total : Ended) → 0 < left →
+      (r : RunsOn code turns child left now answers total) → GoesOnAs next (by_answers answers.kept r.contents now) →
+      kept ≡ record next { instance = with_results [] next.instance } →
+      LetGo (with_numbers next.instance.results answers) more next.instance.frame →
+      RunsOn code turns child (left - 1) kept more total
+  holder_next left now next kept answers more total l r f is let_go =
+      let rs = r.results in
+      let zs = next.instance.results in
+      let to : resume_after code turns child (stopped now) (with_results rs (whole r.contents now)) ≡ behind rs (resumed.GoesOn (whole f.contents next)) =
+      all_follows answers rs r.contents now r.none r.serves ∙ ap (behind rs) f.instance in
+      let asks : AsksNoMore now.instance.frame (resumed.GoesOn (whole f.contents next)) =
+      subst (AsksNoMore now.instance.frame) f.instance
+      (asks_behind code turns child answers.kept (stopped now) (whole r.contents now) now.instance.frame
+      (λ g e n may. segments_ask_no_other (before_of code now.instance) g n e may)) in
+      subst (λ (h : Holder). RunsOn code turns child (left - 1) h more total) (sym is) (record {
+        contents = f.contents;
+        results = rs ++ zs;
+        stands = f.stands;
+        none = refl;
+        serves = serves_still (with_numbers zs answers) more next.instance.frame (rs ++ zs) let_go
+            (serves_more answers next.instance.frame rs zs (serves_fewer answers now.instance.frame next.instance.frame rs asks r.serves));
+        ends = segment_next code turns child left (with_results rs (whole r.contents now))
+            (with_results (rs ++ zs) (whole f.contents next)) total l (sym to) r.ends;
+      })
+
+  pub holder_last : (left : ℕ) (now : Holder) (answers : KeptAnswers) (over total : Ended) → 0 < left →
+      (r : RunsOn code turns child left now answers total) → by_answers answers.kept r.contents now ≡ resumed.IsOver over → over ≡ total
+  holder_last left now answers over total l r f =
+      segment_last code turns child left (with_results r.results (whole r.contents now)) over total l
+      (sym (all_follows answers r.results r.contents now r.none r.serves ∙ ap (behind r.results) f)) r.ends
+
+  -- before the first segment
+  pub holder_first : (left : ℕ) (i : Instance) (begun now : Holder) (answers : KeptAnswers) (total : Ended) →
+      begun.instance ≡ i → begun.loans ≡ [] → run_segments code turns child left i ≡ total →
+      now ≡ record begun { instance = with_results [] begun.instance } →
+      LetGo (with_numbers begun.instance.results (record { kept = []; count = 0 })) answers begun.instance.frame →
+      RunsOn code turns child left now answers total
+  holder_first left i begun now answers total same none ends is let_go =
+      let rs = begun.instance.results in
+      subst (λ (h : Holder). RunsOn code turns child left h answers total) (sym is) (record {
+        contents = begun.instance.contents;
+        results = rs;
+        stands = subst (λ (ls : List Loan). AreLent ls begun.instance.contents begun.instance.contents) (sym none) refl;
+        none = refl;
+        serves = serves_still (with_numbers rs (record { kept = []; count = 0 })) answers begun.instance.frame rs let_go
+            (serves_more (record { kept = []; count = 0 }) begun.instance.frame [] rs
+            (record { count = refl; below = All-nil (λ (x : Answer). x.child < 0); told = λ n may. refl }));
+        ends = ap (run_segments code turns child left) same ∙ ends;
+      })
 
 -- ---- what an instance waits for
 
-module _ (code : Code) (turns : ℕ) (child : Runner) (k : Contents) (h : Holder) (y : Yield) where
+module _ (kept : List Answer) (code : Code) (turns : ℕ) (child : Runner) (k : Contents) (h : Holder) (y : Yield) where
   abbrev for_it : Yield → Resumed
-  for_it z = resume code turns child z (whole k h)
+  for_it z = resume_by kept code turns child z (whole k h)
 
   pub calls_follow : (calls : List CallOut) (ready : Instance) (resumed : Resumed) (next : Next) →
       y ≡ yield.Calls calls → ready ≡ give_all (whole k h) → resumed ≡ call_all code turns child calls ready →
@@ -141,12 +202,12 @@ module _ (code : Code) (turns : ℕ) (child : Runner) (k : Contents) (h : Holder
   }
 
   pub await_follows : (n : ℕ) (after : Instance) (next : Next) → Stands k h → y ≡ yield.Await n →
-      after ≡ await n h.instance → next ≡ with_loans h.loans (resumed.GoesOn after) → Follows next (for_it y)
+      after ≡ await_answer kept n h.instance → next ≡ with_loans h.loans (resumed.GoesOn after) → Follows next (for_it y)
   await_follows n after next st is made to =
       subst (λ (x : Next). Follows x (for_it y))
       (sym (to ∙ ap (λ (i : Instance). with_loans h.loans (resumed.GoesOn i)) made))
-      (subst (λ (r : Resumed). Follows (with_loans h.loans (resumed.GoesOn (await n h.instance))) r)
-      (ap for_it (sym is)) (awaited_follows h.loans n h.instance k st))
+      (subst (λ (r : Resumed). Follows (with_loans h.loans (resumed.GoesOn (await_answer kept n h.instance))) r)
+      (ap for_it (sym is)) (awaited_follows kept h.loans n h.instance k st))
 
   pub make_follows : (m : Made) (resumed : Resumed) (next : Next) → Stands k h → y ≡ yield.Make m →
       resumed ≡ make code m h.instance → next ≡ with_loans h.loans resumed → Follows next (for_it y)
@@ -156,14 +217,14 @@ module _ (code : Code) (turns : ℕ) (child : Runner) (k : Contents) (h : Holder
       (ap for_it (sym is)) (made_follows h.loans code m h.instance k st))
 
 -- behind a segment, by the rest of a holder that kept the roots of its frame
-pub segment_follows : (code : Code) (turns : ℕ) (child : Runner) (k : Contents) (h rest : Holder) (a : After)
+pub segment_follows : (kept : List Answer) (code : Code) (turns : ℕ) (child : Runner) (k : Contents) (h rest : Holder) (a : After)
     (n : Next) → a ≡ segment (before_of code h.instance) → rest.instance.frame.own ≡ h.instance.frame.own →
     rest ≡ record h { instance = record h.instance { frame = rest.instance.frame; parts = [] } } →
-    Stands k h → ((c : Contents) → Stands c rest → Follows n (resume_after code turns child a (whole c rest))) →
-    Follows n (resume_after code turns child (segment (before_of code h.instance)) (whole k h))
-segment_follows code turns child k h rest a n is own same st f =
+    Stands k h → ((c : Contents) → Stands c rest → Follows n (resume_after_by kept code turns child a (whole c rest))) →
+    Follows n (resume_after_by kept code turns child (segment (before_of code h.instance)) (whole k h))
+segment_follows kept code turns child k h rest a n is own same st f =
     subst (λ (r : Resumed). Follows n r)
-    (ap (λ (x : Holder). resume_after code turns child a (whole k x)) same ∙
-    resumes_with_roots code turns child a (whole k h) rest.instance.frame own ∙
-    ap (λ (b : After). resume_after code turns child b (whole k h)) is)
+    (ap (λ (x : Holder). resume_after_by kept code turns child a (whole k x)) same ∙
+    resumes_with_roots kept code turns child a (whole k h) rest.instance.frame own ∙
+    ap (λ (b : After). resume_after_by kept code turns child b (whole k h)) is)
     (f k (subst (λ (x : Holder). Stands k x) (sym same) st))

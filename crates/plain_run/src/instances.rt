@@ -1,12 +1,14 @@
 //! A task instance between two of its segments.
 
-ghost use Rattle.std.specs.Prelude.{◌≡◌, pos, get_or, IfOk};
-ghost use Rattle.machine_terms.specs.Orders.{after_call, await, begun, breaks, conclude};
+ghost use Rattle.std.specs.Prelude.{◌≡◌, IfOk};
+ghost use Rattle.machine_terms.specs.Orders.{after_call, begun, breaks, conclude};
 ghost use Rattle.machine_terms.specs.Orders.{give_all, make, result_of};
 ghost use Rattle.machine_terms.specs.declared.order.Contents.{Contents as contents};
 ghost use Rattle.machine_terms.specs.declared.order.Ended.TheVariants.{Broke, CameBack};
+ghost use Rattle.plain_run.specs.Answers.{await_answer};
 ghost use Rattle.plain_store.specs.Loans.{Stands, whole};
 
+use crate::answers::Answers;
 use crate::settling::settled;
 use machine_terms::{Contents, Ended, Frame, Instance, Made, Resumed, Stack, Yield};
 use plain_store::{Holder, closed, give_parts, is_sound, make_partition, make_root, no_contents};
@@ -49,23 +51,19 @@ pub fn breaks(instance: Instance) -> Resumed
 }
 
 /// The instance with the value of a child that it waits for.
-pub fn await_child(alloc: Global, child: u64, instance: Instance) -> Result<Instance, AllocError>
-    ensures { IfOk result (λ i. i ≡ await child instance) }
+pub fn await_child(
+    alloc: Global,
+    child: u64,
+    answers: &Answers,
+    instance: Instance,
+) -> Result<Instance, AllocError>
+    ensures { IfOk result (λ i. i ≡ await_answer answers.now.kept child instance) }
 {
     let mut after = instance;
-    let number = result_at(after.results.as_slice(), child);
+    let number = answers.number(child);
     let slots = mem::replace(&mut after.frame.slots, Sequence::new(alloc));
     after.frame.slots = settled(alloc, child, number, slots)?;
     Ok(after)
-}
-
-fn result_at(results: &[i64], child: u64) -> i64
-    ensures { result ≡ get_or results.now child (pos 0) }
-{
-    match results.get(child as usize) {
-        Some(number) => *number,
-        None => 0,
-    }
 }
 
 /// What follows where a root or a partition is to be made.

@@ -1,15 +1,17 @@
 //! The run in order.
 
-ghost use Rattle.std.specs.Prelude.{◌≡◌, [], suc, Some, slice_get, IfOk};
+ghost use Rattle.std.specs.Prelude.{◌≡◌, [], suc, Some, slice_get, IfOk, OnOk};
 ghost use Rattle.machine_terms.specs.Contents.{no_contents};
 ghost use Rattle.machine_terms.specs.Jobs.{first_frame, order_run, run_first};
 ghost use Rattle.machine_terms.specs.Opening.{opening, requirements_on};
 ghost use Rattle.machine_terms.specs.Orders.{before_of, begun, call_all, call_task, call_within, on_resumed};
-ghost use Rattle.machine_terms.specs.Orders.{enough_segments, resume, resume_after, run_segments, runs};
+ghost use Rattle.machine_terms.specs.Orders.{enough_segments, run_segments, runs};
 ghost use Rattle.machine_terms.specs.Segments.{segment};
 ghost use Rattle.machine_terms.specs.declared.order.Contents.{Contents as contents};
+ghost use Rattle.plain_run.specs.Answers.{LetGo, resume_after_by, resume_by, with_numbers, with_results};
 ghost use Rattle.plain_store.specs.Loans.{Follows, Stands, whole};
 
+use crate::answers::Answers;
 use crate::frames::opening;
 use crate::instances::{
     after_call, await_child, begun, breaks, broke, conclude, frame_of_roots, give_all, make,
@@ -89,7 +91,7 @@ fn enough_segments(code: &Code, frame: &Frame) -> Result<u128, AllocError>
     twice.checked_add(2).ok_or(AllocError)
 }
 
-/// Runs an instance for at most so many segments.
+/// Runs an instance for at most so many segments. Of the values of its children those are kept that it may ask for.
 #[cycle(run)]
 fn run_segments(
     alloc: Global,
@@ -101,19 +103,35 @@ fn run_segments(
 ) -> Result<Ended, AllocError>
     ensures { IfOk result (λ e. e ≡ run_segments code.now turns (runs code.now turns below) count instance) }
 {
-    let mut now = Holder {
+    let begun = Holder {
         instance,
         loans: Sequence::new(alloc),
     };
+    let mut answers = Answers::new(alloc);
+    let mut now = keep_answers(alloc, begun, &mut answers)?;
     let mut left = count;
     while left > 0 {
-        match next_segment(alloc, code, turns, below, now)? {
-            Next::GoesOn(next) => now = next,
+        match next_segment(alloc, code, turns, below, &answers, now)? {
+            Next::GoesOn(next) => now = keep_answers(alloc, next, &mut answers)?,
             Next::IsOver(ended) => return Ok(ended),
         }
         left -= 1;
     }
     Ok(broke(None, now.instance))
+}
+
+/// Puts the values of children that came back last to those that are kept.
+fn keep_answers(alloc: Global, holder: Holder, answers: &mut Answers) -> Result<Holder, AllocError>
+    ensures holder { IfOk result (λ h. h
+        ≡ record holder { instance = with_results [] holder.instance }) }
+    ensures answers { OnOk result (LetGo
+        (with_numbers holder.instance.results answers.old) answers.new holder.instance.frame) }
+{
+    let mut after = holder;
+    let results = mem::replace(&mut after.instance.results, Sequence::new(alloc));
+    answers.take(results.as_slice())?;
+    answers.let_go(&after.instance.frame)?;
+    Ok(after)
 }
 
 /// Runs an instance for one segment, and for what the segment stops for.
@@ -123,15 +141,17 @@ fn next_segment(
     code: &Code,
     turns: u64,
     below: u8,
+    answers: &Answers,
     holder: Holder,
 ) -> Result<Next, AllocError>
-    ensures { IfOk result (λ n. (c : contents) → Stands c holder → Follows n (resume_after code.now turns
-        (runs code.now turns below) (segment (before_of code.now holder.instance)) (whole c holder))) }
+    ensures { IfOk result (λ n. (c : contents) → Stands c holder → Follows n
+        (resume_after_by answers.now.kept code.now turns (runs code.now turns below)
+        (segment (before_of code.now holder.instance)) (whole c holder))) }
 {
     let own = holder.instance.frame.own.copy()?;
     let (frame, parts, rest) = opened(alloc, own, holder);
     let after = run(alloc, code, frame, parts)?;
-    go_on(alloc, code, turns, below, after, rest)
+    go_on(alloc, code, turns, below, answers, after, rest)
 }
 
 /// The frame and the parts of an instance, and the rest of it with the roots that it made.
@@ -160,11 +180,12 @@ fn go_on(
     code: &Code,
     turns: u64,
     below: u8,
+    answers: &Answers,
     after: After,
     rest: Holder,
 ) -> Result<Next, AllocError>
-    ensures { IfOk result (λ n. (c : contents) → Stands c rest → Follows n
-        (resume_after code.now turns (runs code.now turns below) after (whole c rest))) }
+    ensures { IfOk result (λ n. (c : contents) → Stands c rest → Follows n (resume_after_by
+        answers.now.kept code.now turns (runs code.now turns below) after (whole c rest))) }
 {
     let After {
         frame,
@@ -178,7 +199,7 @@ fn go_on(
     match frame {
         Some(frame) => {
             left.instance.frame = frame;
-            resume(alloc, code, turns, below, ends, left)
+            resume(alloc, code, turns, below, answers, ends, left)
         }
         None => Ok(Next::IsOver(conclude(alloc, ends, left)?)),
     }
@@ -191,11 +212,12 @@ fn resume(
     code: &Code,
     turns: u64,
     below: u8,
+    answers: &Answers,
     ends: Yield,
     holder: Holder,
 ) -> Result<Next, AllocError>
-    ensures { IfOk result (λ n. (c : contents) → Stands c holder → Follows n
-        (resume code.now turns (runs code.now turns below) ends (whole c holder))) }
+    ensures { IfOk result (λ n. (c : contents) → Stands c holder → Follows n (resume_by
+        answers.now.kept code.now turns (runs code.now turns below) ends (whole c holder))) }
 {
     match ends {
         Yield::Calls(calls) => {
@@ -208,7 +230,7 @@ fn resume(
             Ok(Next::GoesOn(fetched))
         }
         Yield::Await(child) => {
-            let settled = await_child(alloc, child, holder.instance)?;
+            let settled = await_child(alloc, child, answers, holder.instance)?;
             Ok(with_loans(holder.loans, Resumed::GoesOn(settled)))
         }
         Yield::Make(made) => {

@@ -4,3 +4,4 @@ pub mod Values
 pub mod Asked
 pub mod Wants
 pub mod Frames
+pub mod Pendings

@@ -1,3 +1,4 @@
 pub mod Values
 pub mod Wants
 pub mod Frames
+pub mod Pendings

@@ -6,6 +6,7 @@
 ghost use Rattle.segment_regions.specs.Values.{SegmentsKeepValues};
 ghost use Rattle.segment_regions.specs.Wants.{WantsAreNeeded};
 ghost use Rattle.segment_regions.specs.Frames.{SegmentsKeepFrames};
+ghost use Rattle.segment_regions.specs.Pendings.{SegmentsAskNoOther};
 
 /// The values that a segment leaves in its frame and hands to calls come from those of the frame that it ran from, and so
 /// does the region that it divides.
@@ -21,4 +22,10 @@ pub fn wants_are_needed()
 /// A segment leaves its frame's task, depth, needs and roots as they are.
 pub fn segments_keep_frames()
     ensures { SegmentsKeepFrames }
+{}
+
+/// The frame that a segment leaves asks for the values of no other children than the frame from which it ran: of those that
+/// it holds as pending, and of those that weren't called yet.
+pub fn segments_ask_no_other()
+    ensures { SegmentsAskNoOther }
 {}

@@ -4,14 +4,15 @@ use Rattle.region_tree.specs.Requirements.{Requirement}
 use Rattle.machine_terms.specs.declared.frame.Frame.{Frame}
 use Rattle.machine_terms.specs.Opening.{opening}
 use Rattle.machine_terms.specs.Orders.{call_within, runs}
-use Rattle.machine_terms.specs.Orders.{before_of, resume_after}
+use Rattle.machine_terms.specs.Orders.{before_of}
+use Rattle.plain_run.specs.Answers.{KeptAnswers, LetGo, resume_after_by, with_numbers}
 use Rattle.machine_terms.specs.Segments.{segment}
 use Rattle.plain_store.specs.declared.holder.Next.{Next}
 use Rattle.plain_store.specs.declared.loan.Loan.{Loan}
 use Rattle.plain_store.specs.Loans.{AreLent, Follows, whole, with_loans}
 use Rattle.plain_run.proofs.Calling.{call_begun, call_next, level_below, too_many}
 use Rattle.region_tree.specs.declared.piece.Part.{Part}
-use Rattle.plain_run.proofs.Resuming.{calls_follow, holder_last, holder_next, make_follows, segment_follows}
+use Rattle.plain_run.proofs.Resuming.{calls_follow, holder_first, holder_last, holder_next, make_follows, segment_follows}
 use Rattle.plain_run.proofs.order.+run.Goals as goal
 
 pub call_all-loop-call-preserved : goal.call_all-loop-call-preserved
@@ -44,8 +45,8 @@ run_segments-returns-in-IsOver t c =
     let now = c.loop-left.invariant in
     let behind = c.in_ok-next.ensures now.contents now.stands in
     holder_last c.args.code.now c.args.turns (runs c.args.code.now c.args.turns c.args.below)
-    c.loop-left.left c.loop-left.now c.in-IsOver.ended _ positive now
-    (subst (λ (n : Next). Follows n (resume_after c.args.code.now c.args.turns
+    c.loop-left.left c.loop-left.now c.loop-left.answers c.in-IsOver.ended _ positive now
+    (subst (λ (n : Next). Follows n (resume_after_by c.loop-left.answers.kept c.args.code.now c.args.turns
     (runs c.args.code.now c.args.turns c.args.below) (segment (before_of c.args.code.now c.loop-left.now.instance))
     (whole now.contents c.loop-left.now))) c.in-IsOver.is behind)
 
@@ -55,10 +56,11 @@ run_segments-loop-left-preserved t c =
     let now = c.loop-left.invariant in
     let behind = c.in_ok-next.ensures now.contents now.stands in
     holder_next c.args.code.now c.args.turns (runs c.args.code.now c.args.turns c.args.below)
-    c.loop-left.left c.loop-left.now c.in-GoesOn.next _ positive now
-    (subst (λ (n : Next). Follows n (resume_after c.args.code.now c.args.turns
+    c.loop-left.left c.loop-left.now c.in-GoesOn.next c.in_ok-now-in-GoesOn.now c.loop-left.answers c.keep_answers-in-GoesOn.new.answers _ positive now
+    (subst (λ (n : Next). Follows n (resume_after_by c.loop-left.answers.kept c.args.code.now c.args.turns
     (runs c.args.code.now c.args.turns c.args.below) (segment (before_of c.args.code.now c.loop-left.now.instance))
     (whole now.contents c.loop-left.now))) c.in-GoesOn.is behind)
+    c.in_ok-now-in-GoesOn.ensures.holder c.in_ok-now-in-GoesOn.ensures.answers
 
 pub next_segment-returns : goal.next_segment-returns
 next_segment-returns t c =
@@ -69,7 +71,7 @@ next_segment-returns t c =
     c.opened-frame.ensures.frame ∙ ap (λ (ps : List Part). segment (record { code = c.args.code.now; frame = h.instance.frame; parts = ps }))
     c.opened-frame.ensures.parts in
     IfOk-weaker c.go_on.result _ _ (λ n f k st.
-    segment_follows c.args.code.now c.args.turns child k h c.opened-frame.result.2 c.in_ok-after.after n is
+    segment_follows c.args.answers.now.kept c.args.code.now c.args.turns child k h c.opened-frame.result.2 c.in_ok-after.after n is
     c.opened-frame.ensures.own c.opened-frame.ensures.rest st f) c.go_on.ensures
 
 pub runs-returns : goal.runs-returns
@@ -81,22 +83,22 @@ runs-returns t c =
 
 pub run_segments-loop-left-init : goal.run_segments-loop-left-init
 run_segments-loop-left-init t c =
-    let kept = c.args.instance.contents in record {
-      contents = kept;
-      stands = subst (λ (ls : List Loan). AreLent ls kept kept) (sym c.new.ensures) refl;
-      ends = refl;
-    }
+    let i = c.args.instance in
+    holder_first c.args.code.now c.args.turns (runs c.args.code.now c.args.turns c.args.below) c.args.count i
+    (record { instance = i; loans = c.new.result }) c.in_ok-now.now c.keep_answers.new.answers _ refl c.new.ensures refl
+    c.in_ok-now.ensures.holder
+    (subst (λ (a : KeptAnswers). LetGo (with_numbers i.results a) c.keep_answers.new.answers i.frame) c.new-answers.ensures c.in_ok-now.ensures.answers)
 
 pub resume-returns-in_ok-resumed-in-Calls : goal.resume-returns-in_ok-resumed-in-Calls
 resume-returns-in_ok-resumed-in-Calls t c k st =
     let resumed = c.in_ok-resumed-in-Calls.resumed in
-    calls_follow c.args.code.now c.args.turns (runs c.args.code.now c.args.turns c.args.below) k
+    calls_follow c.args.answers.now.kept c.args.code.now c.args.turns (runs c.args.code.now c.args.turns c.args.below) k
     c.args.holder c.args.ends c.in-Calls.calls c.in_ok-ready-in-Calls.ready resumed c.with_loans.result
     c.in-Calls.is (c.in_ok-ready-in-Calls.ensures k st) c.in_ok-resumed-in-Calls.ensures
     (c.with_loans.ensures ∙ ap (λ (ls : List Loan). with_loans ls resumed) c.new.ensures)
 
 pub resume-returns-in_ok-next-in-Make : goal.resume-returns-in_ok-next-in-Make
 resume-returns-in_ok-next-in-Make t c k st =
-    make_follows c.args.code.now c.args.turns (runs c.args.code.now c.args.turns c.args.below) k
+    make_follows c.args.answers.now.kept c.args.code.now c.args.turns (runs c.args.code.now c.args.turns c.args.below) k
     c.args.holder c.args.ends c.in-Make.made c.in_ok-next-in-Make.next c.with_loans-in-Make.result st
     c.in-Make.is c.in_ok-next-in-Make.ensures c.with_loans-in-Make.ensures

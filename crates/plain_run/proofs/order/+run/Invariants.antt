@@ -35,7 +35,7 @@ decreases-call_within l = 16 * l.below + 1
 
 abbrev pub invariant-run_segments-loop-left : goal.invariant-run_segments-loop-left
 invariant-run_segments-loop-left l =
-    RunsOn l.code l.turns (runs l.code l.turns l.below) l.left l.now
+    RunsOn l.code l.turns (runs l.code l.turns l.below) l.left l.now l.answers
     (run_segments l.code l.turns (runs l.code l.turns l.below) l.count l.fn.instance)
 
 abbrev pub decreases-run_segments-loop-left : goal.decreases-run_segments-loop-left
