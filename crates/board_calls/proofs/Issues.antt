@@ -2,16 +2,15 @@
 use Rattle.std.proofs.Common.{◌≡◌, ◌<◌, ◌∙◌, ◌+◌, ◌++◌, ℕ, List, [], ◌∷◌, All, ap, length, map, sym, ⊎_elim}
 use Rattle.std.proofs.lemmas.Bool.{cases_lt, false≢true}
 use Rattle.std.proofs.lemmas.List.{get_or_past, map-append}
-use Rattle.std.proofs.lemmas.List.Elements.{All-head, All-map, All-tail}
+use Rattle.std.proofs.lemmas.List.Elements.{All-map}
 use Rattle.plain_values.specs.Points.{counted_from}
 use Rattle.point_sets.proofs.Rising.{counted_from-+}
-use Rattle.region_finder.specs.Listings.{IsListingOf}
 use Rattle.region_tree.specs.Trees.{RegionTree}
 use Rattle.region_tree.specs.declared.needs.Needs.{Needs}
 use Rattle.region_tree.specs.declared.tree.OpNumber.{OpNumber}
-use Rattle.dependence_graph.proofs.Extending.{extends_issued, listing_push}
+use Rattle.dependence_graph.proofs.Covering.{extends_covered}
 use Rattle.dependence_graph.specs.Entries.{Knot}
-use Rattle.dependence_graph.specs.Graphs.{Waits, issued, issued_one}
+use Rattle.dependence_graph.specs.Graphs.{Waits, issued}
 use Rattle.dependence_graph.specs.Issues.{AreAllNeeds}
 use Rattle.dependence_graph.specs.Knots.{is_in_progress, knot_at, no_knot, number}
 use Rattle.dependence_graph.specs.declared.stage.Stage.TheVariants.{Begun}
@@ -23,13 +22,6 @@ use Rattle.board_calls.specs.Calls.{HasNeedsOf, numbers_from}
 pub all_need : (t : RegionTree) (fs : List Frame) → All (HasNeedsOf t) fs → AreAllNeeds t (needs_of fs)
 all_need t fs a = All-map (λ (n : Needs). AreNeeds t n.items) (λ (f : Frame). f.needs) fs a
 
-pub listing_issued : (t : RegionTree) (op : OpNumber) (ns : List Needs) (g : Waits) → AreAllNeeds t ns → IsListingOf t g.listing →
-    IsListingOf t (issued t g op ns).listing
-listing_issued t op [] g a h = h
-listing_issued t op (n ∷ ns) g a h =
-    listing_issued t op ns (issued_one t g op n.items) (All-tail (λ (m : Needs). AreNeeds t m.items) n ns a)
-    (listing_push t op (number (length g.knots)) n.items g.listing (All-head (λ (m : Needs). AreNeeds t m.items) n ns a) h)
-
 -- one that has begun is there
 begun_there : (ks : List Knot) (k : ℕ) → (knot_at ks k).stage ≡ Begun → k < length ks
 begun_there ks k e = ⊎_elim
@@ -39,7 +31,7 @@ begun_there ks k e = ⊎_elim
 
 pub begun_issued : (t : RegionTree) (op : OpNumber) (ns : List Needs) (g : Waits) → (knot_at g.knots op.0).stage ≡ Begun →
     (knot_at (issued t g op ns).knots op.0).stage ≡ Begun
-begun_issued t op ns g h = ap (λ (x : Knot). x.stage) ((extends_issued t op ns g).same op.0 (begun_there g.knots op.0 h)) ∙ h
+begun_issued t op ns g h = ap (λ (x : Knot). x.stage) ((extends_covered t op ns g).same op.0 (begun_there g.knots op.0 h)) ∙ h
 
 -- ---- numbers
 

@@ -3,19 +3,19 @@ use Rattle.std.specs.Prelude.{◌≢◌, IfSome, OnErr, OnOk, Result, Ok, Err}
 use Rattle.std.proofs.Common.{◌≡◌, ◌<◌, ◌≤◌, ◌∙◌, ◌+◌, ◌-◌, ◌++◌, ℕ, zero, suc, Bool, true, false, List, [], ◌∷◌, All, Some, ap, arith, get_or, inl, inr, length, map, refl, set, subst, sym, ⊎_elim}
 use Rattle.std.proofs.lemmas.Bool.{cases_lt, false≢true}
 use Rattle.std.proofs.lemmas.Bool.Decides.{eqb_tells}
-use Rattle.std.proofs.lemmas.List.{get_or-append_right, get_or-set_other, get_or-set_same, get_or_append_left, get_or_push, length-append, length-map, length-set}
+use Rattle.std.proofs.lemmas.List.{get_or-append_right, get_or-set_other, get_or-set_same, get_or_append_left, length-append, length-map, length-set}
 use Rattle.std.proofs.lemmas.List.Elements.{All-append, All-cons, All-map, All-nil, All-set, All-weaker}
-use Rattle.region_finder.specs.Listings.{IsListingOf, earlier}
+use Rattle.region_finder.specs.Listings.{IsListingOf}
 use Rattle.region_tree.specs.Needs.{AreNeeds}
 use Rattle.region_tree.specs.Trees.{RegionTree}
 use Rattle.region_tree.specs.declared.needs.Needs.{Needs}
 use Rattle.region_tree.specs.declared.tree.OpNumber.{OpNumber}
 use Rattle.logical_map.specs.Maps.{LogicalMap}
-use Rattle.dependence_graph.proofs.Extending.{extends_issued, size_issued}
+use Rattle.dependence_graph.proofs.Covering.{children_issued, extends_covered, listing_issued, size_covered}
 use Rattle.dependence_graph.specs.Entries.{Knot}
-use Rattle.dependence_graph.specs.Graphs.{Waits, issued, issued_one, knot_on}
-use Rattle.dependence_graph.specs.Knots.{knot_at, no_knot, number}
-use Rattle.dependence_graph.specs.declared.stage.Stage.TheVariants.{Begun, Dropped, Parked, Stopped, Waiting}
+use Rattle.dependence_graph.specs.Graphs.{Waits, issued, knot_on}
+use Rattle.dependence_graph.specs.Knots.{knot_at, number}
+use Rattle.dependence_graph.specs.declared.stage.Stage.TheVariants.{Begun, Parked, Stopped}
 use Rattle.machine_terms.specs.declared.frame.Before.{Before}
 use Rattle.machine_terms.specs.declared.frame.Frame.{Frame}
 use Rattle.machine_terms.specs.Segments.{segment}
@@ -25,7 +25,7 @@ use Rattle.board_terms.specs.declared.operation.Activity.TheVariants.{Idle}
 use Rattle.board_terms.specs.declared.operation.Operation.{Operation}
 use Rattle.board_terms.specs.States.{State, called_by, no_operation, operation_at}
 use Rattle.board_calls.proofs.Frames.{frames_of_need}
-use Rattle.board_calls.proofs.Issues.{all_need, listing_issued}
+use Rattle.board_calls.proofs.Issues.{all_need}
 use Rattle.board_calls.specs.Calls.{HasNeedsOf, activity_by, are_all, called_waits, calling, frames_of, numbers_from, waiting_by}
 use Rattle.board_gives.specs.Gives.{IsIssuedBy}
 use Rattle.board_gives.specs.Makes.{IsRootBelow}
@@ -47,25 +47,12 @@ pub record HasMore (k count : ℕ) (ks us : List Knot) : Type 0 where
   pub begun : (j : ℕ) → j ≢ k → j < length ks → (knot_at ks j).stage ≡ Begun → (knot_at us j).stage ≡ Begun
   pub new : (j : ℕ) → length ks ≤ j → j < length us → (knot_at us j).parent.0 ≡ k
 
-new_parents : (t : RegionTree) (op : OpNumber) (ns : List Needs) (g : Waits) (j : ℕ) → length g.knots ≤ j → j < length (issued t g op ns).knots →
-    (knot_at (issued t g op ns).knots j).parent.0 ≡ op.0
-new_parents t op [] g j a b = absurd (omega (arith, a, b))
-new_parents t op (n ∷ ns) g j a b =
-    let x : Knot = knot_on g.knots op (earlier t g.listing op.0 n.items) Waiting Dropped in
-    let size : length (g.knots ++ x ∷ []) ≡ length g.knots + 1 = length-append g.knots (x ∷ []) in
-    ⊎_elim
-    (λ l. let e : j ≡ length g.knots = omega (arith, a, l, size) in
-    ap (λ (y : Knot). y.parent.0) ((extends_issued t op ns (issued_one t g op n.items)).same j l)
-    ∙ ap (λ (y : Knot). y.parent.0) (get_or_push g.knots x no_knot j (sym e)))
-    (λ m. new_parents t op ns (issued_one t g op n.items) j m b)
-    (cases_lt j (length (g.knots ++ x ∷ [])))
-
 pub more_issued : (t : RegionTree) (op : OpNumber) (ns : List Needs) (g : Waits) → HasMore op.0 (length ns) g.knots (issued t g op ns).knots
 more_issued t op ns g = record {
-  counted = size_issued t op ns g;
-  parents = λ j b. ap (λ (x : Knot). x.parent) ((extends_issued t op ns g).same j b);
-  begun = λ j other b h. ap (λ (x : Knot). x.stage) ((extends_issued t op ns g).same j b) ∙ h;
-  new = λ j a b. new_parents t op ns g j a b;
+  counted = size_covered t op ns g;
+  parents = λ j b. ap (λ (x : Knot). x.parent) ((extends_covered t op ns g).same j b);
+  begun = λ j other b h. ap (λ (x : Knot). x.stage) ((extends_covered t op ns g).same j b) ∙ h;
+  new = λ j a b. ap (λ (o : OpNumber). o.0) (children_issued t op ns g j a (omega (arith, b, size_covered t op ns g)));
 }
 
 more_stays : (k count : ℕ) (ks us vs : List Knot) → HasMore k count ks us → StaysBut k us vs → HasMore k count ks vs
@@ -209,7 +196,7 @@ waits_more : (s : State) (k : ℕ) (b : Before) (fs : List Frame) (all : Bool) �
     HasMore k (length fs) s.waits.knots (called_waits s.tree s.waits (number k) fs all).knots
 waits_more s k b fs all kept e =
     let issued_knots = issued s.tree s.waits (number k) (needs_of fs) in
-    let grown = size_issued s.tree (number k) (needs_of fs) s.waits in
+    let grown = size_covered s.tree (number k) (needs_of fs) s.waits in
     more_waiting all (length fs) s.waits.knots issued_knots k (omega (arith, grown, out_there s k b e, kept.counted))
     (subst (λ (n : ℕ). HasMore k n s.waits.knots issued_knots.knots) (length-map fs (λ (f : Frame). f.needs))
     (more_issued s.tree (number k) (needs_of fs) s.waits))

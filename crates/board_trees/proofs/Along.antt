@@ -26,11 +26,13 @@ use Rattle.board_terms.specs.Closings.{all_over}
 use Rattle.board_terms.specs.Stages.{is_over}
 use Rattle.board_terms.specs.Stages as table
 use Rattle.board_terms.specs.States.{State, operation_at}
-use Rattle.board_trees.specs.Shows.{IsChild, Leads, Row, Shows, ShowsChildren, needs_issued, said_in, siblings}
+use Rattle.board_trees.specs.Shows.{AreListed, Leads, Row, Shows, ShowsChildren, needs_issued, said_in, siblings}
 use Rattle.board_trees.specs.Stages.{WaitsWell}
+use Rattle.board_trees.specs.Told.{AreOrdered}
 use Rattle.board_trees.specs.Waits.{Sibling}
 use Rattle.board_trees.proofs.Kept.{ChangesOne, children_kept, is_child_kept, row_kept, shows_kept, with_rows}
 use Rattle.board_trees.proofs.Open.{IsTold, IsToldOpen, WereMade, open_tells}
+use Rattle.board_trees.proofs.Ordered.{node_ordered}
 use Rattle.board_trees.proofs.Settled.{node_told, settled}
 
 pub places_same : (w : List ℕ) (c d : ℕ) (u x : List ℕ) → (w ++ c ∷ []) ++ u ≡ (w ++ d ∷ []) ++ x → c ≡ d
@@ -129,7 +131,7 @@ module _ (job : Job) (s : State) (who : ℕ → ℕ) (ways : List (List ℕ)) (k
             let from : c ≡ 0 + c = omega arith in
             let a = among c way w j 0 [] roots (operation_at s j).children is p 0 [] l.0
             (All-append (λ (r : RootId). r.0 < length s.roots) above (operation_at s j).frame.own t.made (own_made j)) h.1 l.1 l.2
-            (e ∙ sym (append_assoc w (c ∷ []) way) ∙ ap (λ z. (w ++ z ∷ []) ++ way) from) (λ Q. refl) in
+            (e ∙ sym (append_assoc w (c ∷ []) way) ∙ ap (λ z. (w ++ z ∷ []) ++ way) from) tt (λ Q. refl) in
             let goes : tree.is_over G st ≡ false =
             sym (node_told job s who ways w j earlier above (op D N i f ps st is) h).is_over ∙ open_above (c ∷ way) w j earlier above (op D N i f ps st is) h l in
             let other : ¬ (j ≡ k) = λ q. not_above w c way (way_same w v (sym h.0.way_is ∙ ap (way_of G (machine_of job) ways) q ∙ way_is) ∙ e) in
@@ -149,6 +151,10 @@ module _ (job : Job) (s : State) (who : ℕ → ℕ) (ways : List (List ℕ)) (k
                 waits = subst (λ (o : Operation). WaitsWell job.code knots D N earlier (siblings job o.children a.left) (knot_at knots j).on st) (sym (change.others j other))
                     (subst (λ xs. WaitsWell job.code knots D N earlier xs (knot_at knots j).on st) (sym a.same)
                     (subst (λ (o : Operation). WaitsWell job.code knots D N earlier (siblings job o.children is) (knot_at knots j).on st) (change.others j other) kept.waits));
+                begun = kept.begun;
+                listed = subst (λ (o : Operation). AreListed job u who roots j (siblings job o.children a.left)) (sym (change.others j other))
+                    (subst (AreListed job u who roots j) (sym a.same)
+                    (subst (λ (o : Operation). AreListed job u who roots j (siblings job o.children is)) (change.others j other) kept.listed));
                 children_are = kept.children_are;
               },
               a.shows,
@@ -169,10 +175,10 @@ module _ (job : Job) (s : State) (who : ℕ → ℕ) (ways : List (List ℕ)) (k
 
         among : (c : ℕ) (way w : List ℕ) (j d : ℕ) (earlier : List Sibling) (roots : List RootId) (ks : List OpNumber) (is : Items G) (p : List ℕ) (place : ℕ) (Ns : List (List Requirement)) (x : ℕ) →
             WereMade job s roots → ShowsChildren job s who ways w j d earlier roots ks is → slice_get ks c ≡ Some (number x) → Leads job s x way k → v ≡ (w ++ (d + c) ∷ []) ++ way →
-            ((Q : List Requirement) → IsToldOpen job makings s.waits.knots earlier Ns Q) → LeavesAmong c way w j d earlier roots ks is (step_among G M kind c way p place Ns m is)
-        among c way w j d earlier roots ks no_item p place Ns x g h e l q tells = absurd (none-some (number x) (ap (λ ks. slice_get ks c) (sym h) ∙ e))
-        among c way w j d earlier roots ks (said t is) p place Ns x g h e l q tells =
-            let a = among c way w j d earlier roots ks is p place Ns x g h e l q tells in
+            AreOrdered s.waits.knots earlier → ((Q : List Requirement) → IsToldOpen job makings s.waits.knots earlier Ns Q) → LeavesAmong c way w j d earlier roots ks is (step_among G M kind c way p place Ns m is)
+        among c way w j d earlier roots ks no_item p place Ns x g h e l q o tells = absurd (none-some (number x) (ap (λ ks. slice_get ks c) (sym h) ∙ e))
+        among c way w j d earlier roots ks (said t is) p place Ns x g h e l q o tells =
+            let a = among c way w j d earlier roots ks is p place Ns x g h e l q o tells in
             record {
               left = said t a.left;
               steps = ap (behind G M (said t)) a.steps;
@@ -182,17 +188,17 @@ module _ (job : Job) (s : State) (who : ℕ → ℕ) (ways : List (List ℕ)) (k
               children = a.children;
               made = a.made;
             }
-        among c way w j d earlier roots [] (child_op n is) p place Ns x g h e l q tells = absurd h
-        among zero way w j d earlier roots (y ∷ ys) (child_op n is) p place Ns x g h e l q tells =
+        among c way w j d earlier roots [] (child_op n is) p place Ns x g h e l q o tells = absurd h
+        among zero way w j d earlier roots (y ∷ ys) (child_op n is) p place Ns x g h e l q o tells =
             let here : d + 0 ≡ d = omega arith in
             let at : v ≡ (w ++ d ∷ []) ++ way = q ∙ ap (λ z. (w ++ z ∷ []) ++ way) here in
             let a = along way (w ++ d ∷ []) y.0 earlier roots (place ∷ p) (Rattle.std.specs.Prelude.not (tree.meets_any G M Ns (tree.needs_of G n))) n h.1
-            (subst (λ (z : OpNumber). Leads job s z.0 way k) (sym (some_same y (number x) e)) l) at (record { clear = tells (tree.needs_of G n); made = g }) in
+            (subst (λ (z : OpNumber). Leads job s z.0 way k) (sym (some_same y (number x) e)) l) at (record { ordered = o; clear = tells (tree.needs_of G n); made = g }) in
             record {
               left = child_op a.left is;
               steps = ap (as_child G M is) a.steps;
               shows = (
-                subst (λ D. IsChild job u who ways j y.0 roots D) (sym a.needs) (is_child_kept job s os knots turns k change who ways j y.0 roots (needs_issued job n) h.0),
+                is_child_kept job s os knots turns k change who ways j y.0 h.0,
                 a.shows,
                 subst (λ D. ShowsChildren job u who ways w j (suc d) (earlier ++ record { op = y.0; needs = D } ∷ []) roots ys is) (sym a.needs)
                     (children_kept job s os knots turns k change who ways v w j (suc d) (earlier ++ record { op = y.0; needs = needs_issued job n } ∷ []) roots ys is way_is
@@ -203,16 +209,17 @@ module _ (job : Job) (s : State) (who : ℕ → ℕ) (ways : List (List ℕ)) (k
               children = a.children;
               made = ap (λ z. z + made_among G (machine_of job) is) a.made;
             }
-        among (suc c) way w j d earlier roots (y ∷ ys) (child_op n is) p place Ns x g h e l q tells =
+        among (suc c) way w j d earlier roots (y ∷ ys) (child_op n is) p place Ns x g h e l q o tells =
             let there : d + suc c ≡ suc d + c = omega arith in
             let at : v ≡ (w ++ (suc d + c) ∷ []) ++ way = q ∙ ap (λ z. (w ++ z ∷ []) ++ way) there in
             let a = among c way w j (suc d) (earlier ++ record { op = y.0; needs = needs_issued job n } ∷ []) roots ys is p (suc place) (still_open G M n Ns) x g h.2 e l at
+            (node_ordered job s who ways (w ++ d ∷ []) y.0 earlier roots n h.1 o)
             (λ Q. open_tells job s who ways makings earlier Ns y.0 n (node_told job s who ways (w ++ d ∷ []) y.0 earlier roots n h.1) Q (tells Q)) in
             record {
               left = child_op n a.left;
               steps = ap (behind G M (child_op n)) a.steps;
               shows = (
-                is_child_kept job s os knots turns k change who ways j y.0 roots (needs_issued job n) h.0,
+                is_child_kept job s os knots turns k change who ways j y.0 h.0,
                 shows_kept job s os knots turns k change who ways v (w ++ d ∷ []) y.0 earlier roots n way_is
                     (λ r o. let z = places_same w (suc d + c) d way r (sym at ∙ o) in absurd (omega (arith, z))) h.1,
                 a.shows,

@@ -70,6 +70,8 @@ module _ (job : Job) (t : TaskCode) (may : may_start job t ≡ true) where
         stands = (inr refl, (refl, refl));
         free = λ p q. refl;
         waits = (refl, refl);
+        begun = λ e. refl;
+        listed = tt;
         children_are = tt;
       },
       refl,

@@ -18,9 +18,11 @@ use Rattle.code_boards.specs.Laws.{machine_of}
 use Rattle.code_boards.specs.Views.{spaces_of}
 use Rattle.board_terms.specs.States.{State, operation_at}
 use Rattle.board_trees.specs.Shows.{Leads, Shows, ShowsChildren, needs_issued}
+use Rattle.board_trees.specs.Told.{AreOrdered}
 use Rattle.board_trees.specs.Waits.{Sibling}
 use Rattle.board_trees.proofs.Along.{some_same}
 use Rattle.board_trees.proofs.Open.{IsTold, IsToldOpen, WereMade, open_tells}
+use Rattle.board_trees.proofs.Ordered.{node_ordered}
 use Rattle.board_trees.proofs.Settled.{node_told}
 
 either_same : {A : Type 0} (a : A) (b : Bool) → cond b a a ≡ a
@@ -72,18 +74,19 @@ module _ (job : Job) (s : State) (who : ℕ → ℕ) (ways : List (List ℕ)) (k
         refused (c ∷ way) w j earlier above p before (op D N i f ps st is) h l t =
             ap (λ o. cond (tree.is_over G st) None (in_op G M D N i f ps st o))
             (refused_among c way w j 0 [] (above ++ (operation_at s j).frame.own) (operation_at s j).children is p 0 [] l.0
-            (All-append (λ (r : RootId). r.0 < length s.roots) above (operation_at s j).frame.own t.made (own_made j)) h.1 l.1 l.2 (λ Q. refl))
+            (All-append (λ (r : RootId). r.0 < length s.roots) above (operation_at s j).frame.own t.made (own_made j)) h.1 l.1 l.2 tt (λ Q. refl))
             ∙ either_same None (tree.is_over G st)
 
         refused_among : (c : ℕ) (way w : List ℕ) (j d : ℕ) (earlier : List Sibling) (roots : List RootId) (ks : List OpNumber) (is : Items G) (p : List ℕ) (place : ℕ) (Ns : List (List Requirement)) (x : ℕ) →
             WereMade job s roots → ShowsChildren job s who ways w j d earlier roots ks is → slice_get ks c ≡ Some (number x) → Leads job s x way k →
-            ((Q : List Requirement) → IsToldOpen job makings s.waits.knots earlier Ns Q) → step_among G M kind c way p place Ns m is ≡ None
-        refused_among c way w j d earlier roots ks no_item p place Ns x g h e l tells = refl
-        refused_among c way w j d earlier roots ks (said t is) p place Ns x g h e l tells = ap (behind G M (said t)) (refused_among c way w j d earlier roots ks is p place Ns x g h e l tells)
-        refused_among c way w j d earlier roots [] (child_op n is) p place Ns x g h e l tells = absurd h
-        refused_among zero way w j d earlier roots (y ∷ ys) (child_op n is) p place Ns x g h e l tells =
+            AreOrdered s.waits.knots earlier → ((Q : List Requirement) → IsToldOpen job makings s.waits.knots earlier Ns Q) → step_among G M kind c way p place Ns m is ≡ None
+        refused_among c way w j d earlier roots ks no_item p place Ns x g h e l o tells = refl
+        refused_among c way w j d earlier roots ks (said t is) p place Ns x g h e l o tells = ap (behind G M (said t)) (refused_among c way w j d earlier roots ks is p place Ns x g h e l o tells)
+        refused_among c way w j d earlier roots [] (child_op n is) p place Ns x g h e l o tells = absurd h
+        refused_among zero way w j d earlier roots (y ∷ ys) (child_op n is) p place Ns x g h e l o tells =
             ap (as_child G M is) (refused way (w ++ d ∷ []) y.0 earlier roots (place ∷ p) (not (tree.meets_any G M Ns (tree.needs_of G n))) n h.1
-            (subst (λ (z : OpNumber). Leads job s z.0 way k) (sym (some_same y (number x) e)) l) (record { clear = tells (tree.needs_of G n); made = g }))
-        refused_among (suc c) way w j d earlier roots (y ∷ ys) (child_op n is) p place Ns x g h e l tells =
+            (subst (λ (z : OpNumber). Leads job s z.0 way k) (sym (some_same y (number x) e)) l) (record { ordered = o; clear = tells (tree.needs_of G n); made = g }))
+        refused_among (suc c) way w j d earlier roots (y ∷ ys) (child_op n is) p place Ns x g h e l o tells =
             ap (behind G M (child_op n)) (refused_among c way w j (suc d) (earlier ++ record { op = y.0; needs = needs_issued job n } ∷ []) roots ys is p (suc place) (still_open G M n Ns) x g h.2 e l
+            (node_ordered job s who ways (w ++ d ∷ []) y.0 earlier roots n h.1 o)
             (λ Q. open_tells job s who ways makings earlier Ns y.0 n (node_told job s who ways (w ++ d ∷ []) y.0 earlier roots n h.1) Q (tells Q)))

@@ -1,5 +1,5 @@
 -- What a tree shows goes on to be shown by rows that stay.
-use Rattle.std.proofs.Common.{◌≡◌, ◌<◌, ◌≤◌, ◌++◌, ◌∷◌, ◌∙◌, ◌&&◌, ◌||◌, ℕ, zero, suc, List, Option, Some, [], ap, inl, inr, length, map, not, refl, subst, sym, arith, append_assoc}
+use Rattle.std.proofs.Common.{◌≡◌, ◌<◌, ◌≤◌, ◌++◌, ◌∷◌, ◌∙◌, ◌&&◌, ◌||◌, ℕ, zero, suc, List, Option, Some, [], ap, inl, inr, length, map, not, refl, subst, sym, true, arith, append_assoc}
 use Rattle.std.specs.Prelude.{filter, slice_get}
 use Rattle.std.proofs.lemmas.Bool.{cases_eq}
 use Rattle.std.proofs.lemmas.List.{append-nil}
@@ -30,11 +30,11 @@ use Rattle.board_terms.specs.Closings.{all_over}
 use Rattle.board_terms.specs.Stages.{is_over}
 use Rattle.board_terms.specs.Stages as table
 use Rattle.board_terms.specs.States.{State, operation_at}
-use Rattle.board_trees.specs.Shows.{IfRuns, IsChild, Row, Shows, ShowsChildren, needs_issued, siblings}
+use Rattle.board_trees.specs.Shows.{AreListed, IfRuns, IsChild, Row, Shows, ShowsChildren, needs_issued, siblings}
 use Rattle.board_trees.specs.Frames.{IsSeen}
 use Rattle.board_trees.specs.Names.{IsNaming}
-use Rattle.board_trees.specs.Stages.{AwaitsOn, ChildrenAre, Stands, WaitsWell}
-use Rattle.board_trees.specs.Waits.{Sibling, WaitsFor, WaitsForChild}
+use Rattle.board_trees.specs.Stages.{AwaitsOn, ChildrenAre, Stands, WaitsWell, was_begun}
+use Rattle.board_trees.specs.Waits.{Sibling, WaitsFor, WaitsForChild, all_clear, is_spared}
 
 -- of another number, or of this one
 pub by_number : (k : ℕ) (P : ℕ → Type 0) → P k → ((j : ℕ) → ¬ (j ≡ k) → P j) → (j : ℕ) → P j
@@ -95,8 +95,12 @@ module _ (job : Job) (s : State) (os : List Operation) (ks : List Knot) (turns k
 
   pub waits_for_kept : (Q : List Requirement) (xs : List Sibling) (on : List OpNumber) → WaitsFor s.waits.knots Q xs on → WaitsFor ks Q xs on
   waits_for_kept Q [] on h = h
-  waits_for_kept Q (x ∷ xs) on (inl h) = inl (ap (λ b. b || not (interfere x.needs Q)) (change.done x.op) ∙ h.0, waits_for_kept Q xs on h.1)
+  waits_for_kept Q (x ∷ xs) on (inl h) = inl (ap (λ b. b || is_spared Q x xs) (change.done x.op) ∙ h.0, waits_for_kept Q xs on h.1)
   waits_for_kept Q (x ∷ xs) on (inr h) = inr (h.0, h.1, h.2, waits_for_kept Q xs h.0 h.3)
+
+  pub clear_kept : (Q : List Requirement) (xs : List Sibling) → all_clear ks Q xs ≡ all_clear s.waits.knots Q xs
+  clear_kept Q [] = refl
+  clear_kept Q (x ∷ xs) = λ i. (change.done x.op i || not (interfere x.needs Q)) && clear_kept Q xs i
 
   waits_for_child_kept : (c : ℕ) (xs : List Sibling) (on : List OpNumber) → WaitsForChild s.waits.knots c xs on → WaitsForChild ks c xs on
   waits_for_child_kept c [] on h = h
@@ -158,6 +162,14 @@ module _ (job : Job) (s : State) (os : List Operation) (ks : List Knot) (turns k
   stands_kept who roots kn o N dropped h = h
 
   module _ (who : ℕ → ℕ) (ways : List (List ℕ)) where
+    pub listed_kept : (roots : List RootId) (j : ℕ) (xs : List Sibling) → AreListed job s who roots j xs → AreListed job u who roots j xs
+    listed_kept roots j [] h = tt
+    listed_kept roots j (x ∷ xs) h = (
+      λ e. let l = h.0 (sym (change.done x.op) ∙ e) in
+          record { entry = l.entry; there = l.there; op_is = l.op_is; context = l.context; issued = l.issued; placed = l.placed; upward = l.upward; alike = l.alike; own = l.own; others = l.others },
+      listed_kept roots j xs h.1,
+    )
+
     pub row_kept : (way : List ℕ) (j : ℕ) (earlier : List Sibling) (roots : List RootId) (D N : List Requirement) (f : board.Frame) (ps : List (Element G)) (st : BoardStage G) (is : Items G) →
         ¬ (j ≡ k) → Row job s who ways way j earlier roots D N f ps st is → Row job u who ways way j earlier roots D N f ps st is
     row_kept way j earlier roots D N f ps st is n h =
@@ -177,15 +189,13 @@ module _ (job : Job) (s : State) (os : List Operation) (ks : List Knot) (turns k
           waits = subst (λ (x : Knot). WaitsWell job.code ks D N earlier (siblings job (operation_at u j).children is) x.on st) knot_same
               (subst (λ (o : Operation). WaitsWell job.code ks D N earlier (siblings job o.children is) (knot_at s.waits.knots j).on st) same
               (waits_well_kept D N earlier (siblings job (operation_at s j).children is) (knot_at s.waits.knots j).on st h.waits));
+          begun = subst (λ (x : Knot). was_begun x.stage ≡ true → all_clear ks D earlier ≡ true) knot_same (λ b. clear_kept D earlier ∙ h.begun b);
+          listed = subst (λ (o : Operation). AreListed job u who roots j (siblings job o.children is)) same (listed_kept roots j (siblings job (operation_at s j).children is) h.listed);
           children_are = subst (λ (o : Operation). ChildrenAre job.code u o.children st) same (children_are_kept (operation_at s j).children st h.children_are);
         }
 
-    pub is_child_kept : (j i : ℕ) (roots : List RootId) (D : List Requirement) → IsChild job s who ways j i roots D → IsChild job u who ways j i roots D
-    is_child_kept j i roots D h = record {
-      parent = change.parent i ∙ h.parent;
-      later = h.later;
-      listed = λ e. let l = h.listed (sym (change.done i) ∙ e) in record { entry = l.entry; there = l.there; op_is = l.op_is; context = l.context; needs = l.needs };
-    }
+    pub is_child_kept : (j i : ℕ) → IsChild job s who ways j i → IsChild job u who ways j i
+    is_child_kept j i h = record { parent = change.parent i ∙ h.parent; later = h.later }
 
     -- ---- trees
 
@@ -215,7 +225,7 @@ module _ (job : Job) (s : State) (os : List Operation) (ks : List Knot) (turns k
       children_kept v way j c earlier roots ks (said t is) e apart h = children_kept v way j c earlier roots ks is e apart h
       children_kept v way j c earlier roots [] (child_op n is) e apart h = absurd h
       children_kept v way j c earlier roots (x ∷ xs) (child_op n is) e apart h = (
-        is_child_kept j x.0 roots (needs_issued job n) h.0,
+        is_child_kept j x.0 h.0,
         shows_kept v (way ++ c ∷ []) x.0 earlier roots n e (apart c (omega arith)) h.1,
         children_kept v way j (suc c) (earlier ++ record { op = x.0; needs = needs_issued job n } ∷ []) roots xs is e (λ d b. apart d (omega (arith, b))) h.2,
       )

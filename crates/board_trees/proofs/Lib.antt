@@ -1,6 +1,7 @@
 pub mod Named
 pub mod Beginning
 pub mod Told
+pub mod Ordered
 pub mod Settled
 pub mod Kept
 pub mod Open

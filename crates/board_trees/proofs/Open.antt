@@ -19,8 +19,9 @@ use Rattle.code_boards.specs.Views.{spaces_of}
 use Rattle.board_terms.specs.States.{State}
 use Rattle.board_trees.specs.Shows.{ShowsChildren, needs_issued, siblings}
 use Rattle.board_trees.specs.Stages.{AwaitsOn}
-use Rattle.board_trees.specs.Told.{all_clear}
-use Rattle.board_trees.specs.Waits.{Sibling, WaitsForChild, has_ended}
+use Rattle.board_trees.specs.Told.{AreOrdered}
+use Rattle.board_trees.specs.Waits.{Sibling, WaitsForChild, all_clear, has_ended}
+use Rattle.board_trees.proofs.Ordered.{children_ordered}
 use Rattle.board_trees.proofs.Settled.{NodeTold, meets_of, node_told}
 use Rattle.board_trees.proofs.Told.{and_on, waits_are_told}
 
@@ -32,9 +33,10 @@ module _ (job : Job) where
   abbrev pub WereMade : State → List RootId → Type 0
   WereMade s roots = All (λ (r : RootId). r.0 < length s.roots) roots
 
-  -- what is told of an operation on the way to it: whether all that it would wait for among its earlier siblings has
-  -- ended, and that its callers' roots were made
+  -- what is told of an operation on the way to it: that its earlier siblings are in order, whether all that it would wait
+  -- for among them has ended, and that its callers' roots were made
   pub record IsTold (s : State) (earlier : List Sibling) (above : List RootId) (before : Bool) (n : Node G) : Type 0 where
+    pub ordered : AreOrdered s.waits.knots earlier
     pub clear : before ≡ all_clear s.waits.knots (tree.needs_of G n) earlier
     pub made : WereMade s above
 
@@ -102,10 +104,10 @@ module _ (job : Job) where
     -- what is waited for has come on both or on neither
     pub ready_told : (way : List ℕ) (j : ℕ) (D N : List Requirement) (earlier : List Sibling) (roots : List RootId) (ks : List OpNumber) (is : Items G) (w : BoardWait G) (on : List OpNumber) (before : Bool) →
         ShowsChildren job s who ways way j 0 [] roots ks is → AwaitsOn job.code s.waits.knots D N earlier (siblings job ks is) w on →
-        before ≡ all_clear s.waits.knots D earlier → all_done s.waits.knots on ≡ tree.is_ready G M before N w is
-    ready_told way j D N earlier roots ks is first on before h a t = (waits_are_told s.waits.knots D earlier on a).ready ∙ sym t
-    ready_told way j D N earlier roots ks is nothing on before h a t = ap (all_done s.waits.knots) a
-    ready_told way j D N earlier roots ks is (part x) on before h a t =
-        (waits_are_told s.waits.knots (filter (is_of x.root x.field) N) (siblings job ks is) on a).ready
+        AreOrdered s.waits.knots earlier → before ≡ all_clear s.waits.knots D earlier → all_done s.waits.knots on ≡ tree.is_ready G M before N w is
+    ready_told way j D N earlier roots ks is first on before h a o t = (waits_are_told s.waits.knots D earlier on o a).ready ∙ sym t
+    ready_told way j D N earlier roots ks is nothing on before h a o t = ap (all_done s.waits.knots) a
+    ready_told way j D N earlier roots ks is (part x) on before h a o t =
+        (waits_are_told s.waits.knots (filter (is_of x.root x.field) N) (siblings job ks is) on (children_ordered job s who ways way j 0 [] roots ks is h tt) a).ready
         ∙ children_clear (filter (is_of x.root x.field) N) way j 0 [] roots ks is h
-    ready_told way j D N earlier roots ks is (child c) on before h a t = child_told c on way j 0 [] roots ks is h a
+    ready_told way j D N earlier roots ks is (child c) on before h a o t = child_told c on way j 0 [] roots ks is h a

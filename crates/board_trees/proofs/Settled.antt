@@ -1,13 +1,11 @@
 -- What shows is settled.
-use Rattle.std.proofs.Common.{◌≡◌, ◌<◌, ◌++◌, ◌∷◌, ◌∙◌, ◌&&◌, ◌||◌, ℕ, zero, suc, Bool, List, None, Some, [], ap, cond, false, inl, inr, length, refl, subst, sym, true}
+use Rattle.std.proofs.Common.{◌≡◌, ◌++◌, ◌∷◌, ◌∙◌, ◌&&◌, ◌||◌, ℕ, zero, suc, Bool, List, Some, [], ap, cond, false, inl, inr, refl, subst, sym, true}
 use Rattle.std.specs.Prelude.{filter}
 use Rattle.std.proofs.Math.Bool.{or_comm}
-use Rattle.std.proofs.lemmas.Bool.{lt-ltb}
 use Rattle.std.proofs.lemmas.List.Folds.{list_any-append}
 use Rattle.region_tree.specs.Requirements.{Requirement, interfere, is_of}
 use Rattle.region_tree.specs.declared.tree.OpNumber.{OpNumber}
 use Rattle.region_tree.specs.declared.tree.RootId.{RootId}
-use Rattle.dependence_graph.specs.Entries.{Knot}
 use Rattle.dependence_graph.specs.Knots.{has_failed, is_done, knot_at, some_failed, stage_at}
 use Rattle.dependence_graph.specs.declared.stage.Stage.{Stage as Knotted}
 use Rattle.dependence_graph.specs.declared.stage.Stage.TheVariants as knot
@@ -32,9 +30,10 @@ use Rattle.board_terms.specs.Stages as table
 use Rattle.board_terms.specs.States.{State, operation_at}
 use Rattle.board_trees.specs.Shows.{Shows, ShowsChildren, needs_issued, siblings}
 use Rattle.board_trees.specs.Stages.{MayIdle, Stands}
-use Rattle.board_trees.specs.Told.{ShownIsSettled, some_bad}
+use Rattle.board_trees.specs.Told.{AreOrdered, ShownIsSettled, some_bad}
 use Rattle.board_trees.specs.Waits.{Sibling, WaitsForChild, has_ended}
-use Rattle.board_trees.proofs.Told.{done_unfailed, or_off, waits_are_told}
+use Rattle.board_trees.proofs.Ordered.{children_ordered, node_ordered}
+use Rattle.board_trees.proofs.Told.{done_unfailed, or_off, stage_there, waits_are_told}
 
 pub wait_open : (w : Wait) → is_over (by_wait w) ≡ false
 wait_open wait.Beginning = refl
@@ -47,9 +46,6 @@ activity_open activity.Idle = refl
 activity_open (activity.Filling claim fill) = refl
 activity_open (activity.Out claim before) = refl
 activity_open (activity.Closing e) = refl
-
-pub stage_there : (ks : List Knot) (k : ℕ) → k < length ks → stage_at ks k ≡ Some (knot_at ks k).stage
-stage_there ks k l = ap (λ b. cond b (Some (knot_at ks k).stage) None) (lt-ltb k (length ks) l)
 
 -- ---- stopped once is enough
 
@@ -175,18 +171,18 @@ module _ (job : Job) where
       off false b h = refl
 
       pub unmet : (bad : List (List Requirement)) (way : List ℕ) (k : ℕ) (earlier : List Sibling) (above : List RootId) (n : Node G) → Shows job s who ways way k earlier above n →
-          ((Q : List Requirement) → tree.meets_any G M bad Q ≡ some_bad s.waits.knots Q earlier) →
+          AreOrdered s.waits.knots earlier → ((Q : List Requirement) → tree.meets_any G M bad Q ≡ some_bad s.waits.knots Q earlier) →
           tree.is_waiting G (tree.stage_of G n) ≡ true → tree.meets_any G M bad (tree.needs_of G n) ≡ false
-      unmet bad way k earlier above (op D N i f ps (idle first) is) h tells e =
-          tells D ∙ sym (waits_are_told s.waits.knots D earlier (knot_at s.waits.knots k).on h.0.waits.0).failed ∙ h.0.waits.1
-      unmet bad way k earlier above (op D N i f ps (idle nothing) is) h tells e = absurd cc
-      unmet bad way k earlier above (op D N i f ps (idle (part x)) is) h tells e = absurd cc
-      unmet bad way k earlier above (op D N i f ps (idle (child x)) is) h tells e = absurd cc
-      unmet bad way k earlier above (op D N i f ps (filling w d l) is) h tells e = absurd cc
-      unmet bad way k earlier above (op D N i f ps (out w d) is) h tells e = absurd cc
-      unmet bad way k earlier above (op D N i f ps (closing x) is) h tells e = absurd cc
-      unmet bad way k earlier above (op D N i f ps (over x) is) h tells e = absurd cc
-      unmet bad way k earlier above (op D N i f ps dropped is) h tells e = absurd cc
+      unmet bad way k earlier above (op D N i f ps (idle first) is) h o tells e =
+          tells D ∙ sym (waits_are_told s.waits.knots D earlier (knot_at s.waits.knots k).on o h.0.waits.0).failed ∙ h.0.waits.1
+      unmet bad way k earlier above (op D N i f ps (idle nothing) is) h o tells e = absurd cc
+      unmet bad way k earlier above (op D N i f ps (idle (part x)) is) h o tells e = absurd cc
+      unmet bad way k earlier above (op D N i f ps (idle (child x)) is) h o tells e = absurd cc
+      unmet bad way k earlier above (op D N i f ps (filling w d l) is) h o tells e = absurd cc
+      unmet bad way k earlier above (op D N i f ps (out w d) is) h o tells e = absurd cc
+      unmet bad way k earlier above (op D N i f ps (closing x) is) h o tells e = absurd cc
+      unmet bad way k earlier above (op D N i f ps (over x) is) h o tells e = absurd cc
+      unmet bad way k earlier above (op D N i f ps dropped is) h o tells e = absurd cc
 
       abbrev pub worse : Node G → List (List Requirement) → List (List Requirement)
       worse n bad = cond (tree.has_failed G (tree.stage_of G n)) (tree.needs_of G n ∷ bad) bad
@@ -213,14 +209,15 @@ module _ (job : Job) where
           ∙ ap (λ y. child_op n y) e
 
       nothing_dropped : (bad : List (List Requirement)) (way : List ℕ) (j c : ℕ) (earlier : List Sibling) (roots : List RootId) (ks : List OpNumber) (is : Items G) →
-          ShowsChildren job s who ways way j c earlier roots ks is → ((Q : List Requirement) → tree.meets_any G M bad Q ≡ some_bad s.waits.knots Q earlier) →
+          ShowsChildren job s who ways way j c earlier roots ks is → AreOrdered s.waits.knots earlier → ((Q : List Requirement) → tree.meets_any G M bad Q ≡ some_bad s.waits.knots Q earlier) →
           tree.sweep G M bad is ≡ is
-      nothing_dropped bad way j c earlier roots ks no_item h tells = refl
-      nothing_dropped bad way j c earlier roots ks (said t is) h tells = ap (λ y. said t y) (nothing_dropped bad way j c earlier roots ks is h tells)
-      nothing_dropped bad way j c earlier roots [] (child_op n is) h tells = absurd h
-      nothing_dropped bad way j c earlier roots (k ∷ ks) (child_op n is) h tells =
-          swept_child bad n is is (unmet bad (way ++ c ∷ []) k.0 earlier roots n h.1 tells)
+      nothing_dropped bad way j c earlier roots ks no_item h o tells = refl
+      nothing_dropped bad way j c earlier roots ks (said t is) h o tells = ap (λ y. said t y) (nothing_dropped bad way j c earlier roots ks is h o tells)
+      nothing_dropped bad way j c earlier roots [] (child_op n is) h o tells = absurd h
+      nothing_dropped bad way j c earlier roots (k ∷ ks) (child_op n is) h o tells =
+          swept_child bad n is is (unmet bad (way ++ c ∷ []) k.0 earlier roots n h.1 o tells)
           (nothing_dropped (worse n bad) way j (suc c) (earlier ++ record { op = k.0; needs = needs_issued job n } ∷ []) roots ks is h.2
+          (node_ordered job s who ways (way ++ c ∷ []) k.0 earlier roots n h.1 o)
           (λ Q. worse_tells bad earlier k.0 n (node_told (way ++ c ∷ []) k.0 earlier roots n h.1) Q (tells Q)))
 
       -- ---- nothing is stopped, and nothing is closed
@@ -233,7 +230,8 @@ module _ (job : Job) where
           let Q = filter (is_of x.root x.field) N in
           ap (λ b. cond b (closing stopped) (idle (part x)))
           (sym (children_bad Q way k 0 [] (above ++ (operation_at s k).frame.own) (operation_at s k).children is h.1)
-          ∙ sym (waits_are_told s.waits.knots Q (siblings job (operation_at s k).children is) (knot_at s.waits.knots k).on h.0.waits.0).failed
+          ∙ sym (waits_are_told s.waits.knots Q (siblings job (operation_at s k).children is) (knot_at s.waits.knots k).on
+          (children_ordered job s who ways way k 0 [] (above ++ (operation_at s k).frame.own) (operation_at s k).children is h.1 tt) h.0.waits.0).failed
           ∙ h.0.waits.1)
       nothing_stopped way k earlier above D N i f ps (idle (child x)) is h =
           ap (λ b. cond b (closing stopped) (idle (child x)))
@@ -259,7 +257,7 @@ module _ (job : Job) where
           Shows job s who ways way k earlier above n → tree.settle G M n ≡ n
       settled way k earlier above (op D N i f ps st is) h =
           ap (tree.settled G M D N i f ps st)
-          (nothing_dropped [] way k 0 [] (above ++ (operation_at s k).frame.own) (operation_at s k).children is h.1 (λ Q. refl))
+          (nothing_dropped [] way k 0 [] (above ++ (operation_at s k).frame.own) (operation_at s k).children is h.1 tt (λ Q. refl))
           ∙ ap (λ x. op D N i f ps (tree.close G M x is) is) (nothing_stopped way k earlier above D N i f ps st is h)
           ∙ ap (λ x. op D N i f ps x is) (nothing_closed way k earlier above D N i f ps st is h)
 

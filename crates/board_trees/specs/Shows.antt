@@ -1,12 +1,13 @@
 -- A state of a board that shows a board of the laws: its table of operations shows the tree, and its map the map.
-use Rattle.std.specs.Prelude.{◌≡◌, ◌<◌, ◌++◌, ◌∷◌, ◌-◌, ◌==◌, ℕ, suc, List, [], All, Bool, Some, true, false, filter, get_or, length, map, not, slice_get}
+use Rattle.std.specs.Prelude.{◌≡◌, ◌<◌, ◌++◌, ◌∷◌, ◌-◌, ◌==◌, ◌⊎◌, ℕ, suc, List, [], All, Bool, Some, true, false, filter, get_or, length, map, not, slice_get}
 use Rattle.std.specs.List.{Contains}
 use Rattle.lane_kernels.specs.Numbers.{FitsWidth, width_of}
-use Rattle.plain_values.specs.Points.{counted_from, points}
-use Rattle.region_finder.specs.Listings.{AreRising, Listed, listed_ops, needs_in}
-use Rattle.region_tree.specs.Needs.{requirements_of}
+use Rattle.plain_values.specs.Points.{counted_from, points, within}
+use Rattle.region_finder.specs.Forests.{Upward, above}
+use Rattle.region_finder.specs.Listings.{AreRising, Listed, PlacedNeed, listed_ops, needs_in}
+use Rattle.region_tree.specs.Needs.{AreNeeds, requirements_of}
 use Rattle.region_tree.specs.Requirements.{Requirement}
-use Rattle.region_tree.specs.Trees.{RegionTree, root_at, set_at}
+use Rattle.region_tree.specs.Trees.{RegionTree, is_region, node_at, points_at, root_at, set_at}
 use Rattle.region_tree.specs.declared.tree.OpNumber.{OpNumber}
 use Rattle.region_tree.specs.declared.tree.RootId.{RootId}
 use Rattle.logical_map.specs.Laws.{IsWhole}
@@ -31,8 +32,8 @@ use Rattle.board_terms.specs.declared.operation.Said.{Said}
 use Rattle.board_terms.specs.States.{State, no_extent, operation_at}
 use Rattle.board_trees.specs.Frames.{IsSeen}
 use Rattle.board_trees.specs.Names.{AreMade, IsNaming, name_of, pointed, requirement_named}
-use Rattle.board_trees.specs.Stages.{ChildrenAre, Stands, WaitsWell}
-use Rattle.board_trees.specs.Waits.{Sibling, has_ended}
+use Rattle.board_trees.specs.Stages.{ChildrenAre, Stands, WaitsWell, was_begun}
+use Rattle.board_trees.specs.Waits.{Sibling, all_clear, has_ended, is_written_over}
 
 module _ (job : Job) where
   -- ---- the map
@@ -47,10 +48,11 @@ module _ (job : Job) where
         number_at live root field point ≡ m (record { root = name_of extents who root; field = field; point = point })
     pub fit : (field point : ℕ) → FitsWidth (width_of (column_of live root field).kind) (number_at live root field point)
 
-  -- a region's root was made, and has its points
+  -- a region's root was made, and has its points; what stands above it has a smaller number, and has them too
   pub record IsWithinRoot (t : RegionTree) (extents : List Extent) (node : ℕ) : Type 0 where
     pub made : root_at t node < length extents
     pub below : All (λ p. p < (get_or extents (root_at t node) no_extent).count) (set_at t node)
+    pub higher : (u : Upward) → above t node ≡ Some u → (u.0.0 < node) × (within (points_at t node) (points_at t u.0.0) ≡ true)
 
   -- ---- the operations
 
@@ -81,6 +83,38 @@ module _ (job : Job) where
   IfRuns dropped P = Unit {0}
   IfRuns _ P = P
 
+  -- ---- what the graph lists
+
+  -- a need's region is there, and the regions on the way up from it have its points
+  pub record IsUpward (t : RegionTree) (m : PlacedNeed) : Type 0 where
+    pub there : m.need.node.0 < length t.nodes
+    pub way : All (λ (u : Upward). (u.0.0 < length t.nodes)
+        × (is_region (node_at t u.0.0).content ≡ true → within (set_at t m.need.node.0) (set_at t u.0.0) ≡ true)) m.way
+
+  module _ (s : State) (who : ℕ → ℕ) (roots : List RootId) where
+    abbrev pub needs_listed : (ℕ → ℕ) → Listed → List Requirement
+    needs_listed name e = map (requirement_named name) (requirements_of s.tree (needs_in e))
+
+    -- The graph lists operation k in its caller's context, with all needs with which it was issued; and of these, which have
+    -- one name under all namings, it lists as open all but those that a later sibling writes over.
+    pub record IsListed (j k : ℕ) (D : List Requirement) (later : List Sibling) : Type 0 where
+      pub entry : Listed
+      pub there : Contains s.waits.listing entry
+      pub op_is : entry.op ≡ number k
+      pub context : entry.context ≡ number j
+      pub issued : (name : ℕ → ℕ) → IsNaming s.roots who roots name → pointed D ≡ map (requirement_named name) (requirements_of s.tree entry.issued)
+      pub placed : AreNeeds s.tree entry.issued
+      pub upward : All (IsUpward s.tree) entry.needs
+      pub alike : (name other : ℕ → ℕ) → IsNaming s.roots who roots name → IsNaming s.roots who roots other → needs_listed name entry ≡ needs_listed other entry
+      pub own : (name : ℕ → ℕ) → IsNaming s.roots who roots name → All (Contains (pointed D)) (needs_listed name entry)
+      pub others : (name : ℕ → ℕ) → IsNaming s.roots who roots name →
+          All (λ (r : Requirement). Contains (needs_listed name entry) r ⊎ (is_written_over later r ≡ true)) (pointed D)
+
+    -- so it lists each of these children that hasn't ended
+    abbrev pub AreListed : ℕ → List Sibling → Type 0
+    AreListed j [] = Unit {0}
+    AreListed j (x ∷ xs) = (has_ended s.waits.knots x.op ≡ false → IsListed j x.op x.needs xs) × AreListed j xs
+
   module _ (s : State) (who : ℕ → ℕ) (ways : List (List ℕ)) where
     -- operation k is the one at a way, whose earlier siblings are these, and these roots are its callers' and its own
     pub record Row (way : List ℕ) (k : ℕ) (earlier : List Sibling) (roots : List RootId) (D N : List Requirement) (f : board.Frame)
@@ -96,21 +130,15 @@ module _ (job : Job) where
       -- one whose claim was taken back before it began waits for no sibling
       pub free : (knot_at s.waits.knots k).stage ≡ Parked → st ≡ idle first → (knot_at s.waits.knots k).on ≡ []
       pub waits : WaitsWell job.code s.waits.knots D N earlier (siblings (operation_at s k).children is) (knot_at s.waits.knots k).on st
+      -- when it began, each sibling before it that interferes with it had ended
+      pub begun : was_begun (knot_at s.waits.knots k).stage ≡ true → all_clear s.waits.knots D earlier ≡ true
+      pub listed : AreListed s who roots k (siblings (operation_at s k).children is)
       pub children_are : ChildrenAre job.code s (operation_at s k).children st
 
-    -- the graph lists it in its caller's context, with the needs with which it was issued
-    pub record IsListed (j k : ℕ) (roots : List RootId) (D : List Requirement) : Type 0 where
-      pub entry : Listed
-      pub there : Contains s.waits.listing entry
-      pub op_is : entry.op ≡ number k
-      pub context : entry.context ≡ number j
-      pub needs : (name : ℕ → ℕ) → IsNaming s.roots who roots name → pointed D ≡ map (requirement_named name) (requirements_of s.tree (needs_in entry))
-
-    -- operation k is a child of operation j, called with needs on these roots
-    pub record IsChild (j k : ℕ) (roots : List RootId) (D : List Requirement) : Type 0 where
+    -- operation k is a child of operation j
+    pub record IsChild (j k : ℕ) : Type 0 where
       pub parent : (operation_at s k).parent ≡ number j
       pub later : j < k
-      pub listed : has_ended s.waits.knots k ≡ false → IsListed j k roots D
 
     abbrev mutual
       pub Shows : List ℕ → ℕ → List Sibling → List RootId → Node (regent_ground (spaces_of job.code)) → Type 0
@@ -123,7 +151,7 @@ module _ (job : Job) where
       ShowsChildren way j c earlier roots ks (said t is) = ShowsChildren way j c earlier roots ks is
       ShowsChildren way j c earlier roots [] (child_op n is) = ⊥
       ShowsChildren way j c earlier roots (k ∷ ks) (child_op n is) =
-          IsChild j k.0 roots (needs_issued n)
+          IsChild j k.0
           × Shows (way ++ c ∷ []) k.0 earlier roots n
           × ShowsChildren way j (suc c) (earlier ++ record { op = k.0; needs = needs_issued n } ∷ []) roots ks is
 

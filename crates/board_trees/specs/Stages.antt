@@ -1,5 +1,5 @@
 -- Where an operation stands: in the table by the graph, its wait and its activity, and in the tree by its stage.
-use Rattle.std.specs.Prelude.{◌≡◌, ◌≤◌, ◌⊎◌, ℕ, List, [], All, Option, Some, None, true, false, drop, filter, length, map, take}
+use Rattle.std.specs.Prelude.{◌≡◌, ◌≤◌, ◌⊎◌, ℕ, Bool, List, [], All, Option, Some, None, true, false, drop, filter, length, map, take}
 use Rattle.region_tree.specs.Pieces.{Held}
 use Rattle.region_tree.specs.Requirements.{Requirement, is_of, part_of}
 use Rattle.region_tree.specs.declared.needs.Need.{Need}
@@ -34,6 +34,12 @@ use Rattle.board_terms.specs.States.{State}
 use Rattle.board_trees.specs.Frames.{HasFitting}
 use Rattle.board_trees.specs.Names.{IsNaming}
 use Rattle.board_trees.specs.Waits.{Sibling, WaitsFor, WaitsForChild}
+
+-- it has begun, be it that it is over by now
+abbrev pub was_begun : Knotted → Bool
+was_begun knot.Waiting = false
+was_begun knot.Dropped = false
+was_begun _ = true
 
 module _ (code : Code) where
   -- ---- how work ends

@@ -1,6 +1,6 @@
 -- What the graph's lists tell of the tree.
-use Rattle.std.specs.Prelude.{◌≡◌, ◌&&◌, ◌||◌, ℕ, List, Bool, not}
-use Rattle.std.specs.List.{list_all, list_any}
+use Rattle.std.specs.Prelude.{◌≡◌, ◌∷◌, ◌&&◌, ℕ, All, List, [], Bool, true}
+use Rattle.std.specs.List.{list_any}
 use Rattle.region_tree.specs.Requirements.{Requirement, interfere}
 use Rattle.region_tree.specs.declared.tree.OpNumber.{OpNumber}
 use Rattle.region_tree.specs.declared.tree.RootId.{RootId}
@@ -13,23 +13,30 @@ use Rattle.code_boards.specs.Laws.{machine_of}
 use Rattle.code_boards.specs.Views.{spaces_of}
 use Rattle.board_terms.specs.States.{State}
 use Rattle.board_trees.specs.Shows.{Shows}
-use Rattle.board_trees.specs.Waits.{Sibling, WaitsFor, has_ended}
-
--- each of these that interferes has ended
-abbrev pub all_clear : List Knot → List Requirement → List Sibling → Bool
-all_clear knots Q xs = list_all (λ (x : Sibling). has_ended knots x.op || not (interfere x.needs Q)) xs
+use Rattle.board_trees.specs.Waits.{Sibling, WaitsFor, all_clear, has_ended}
 
 -- one of these that interferes has failed
 abbrev pub some_bad : List Knot → List Requirement → List Sibling → Bool
 some_bad knots Q xs = list_any (λ (x : Sibling). has_failed (stage_at knots x.op) && interfere x.needs Q) xs
 
+-- where two interfere, the later one has ended only if the earlier one has, and has failed if the earlier one has
+abbrev pub IsBehind : List Knot → Sibling → Sibling → Type 0
+IsBehind knots x y = interfere x.needs y.needs ≡ true →
+    (has_ended knots y.op ≡ true → has_ended knots x.op ≡ true)
+    × (has_failed (stage_at knots x.op) ≡ true → has_failed (stage_at knots y.op) ≡ true)
+
+-- each is behind those before it
+abbrev pub AreOrdered : List Knot → List Sibling → Type 0
+AreOrdered knots [] = Unit {0}
+AreOrdered knots (x ∷ xs) = All (IsBehind knots x) xs × AreOrdered knots xs
+
 pub record WaitsTell (knots : List Knot) (Q : List Requirement) (xs : List Sibling) (on : List OpNumber) : Type 0 where
   pub ready : all_done knots on ≡ all_clear knots Q xs
   pub failed : some_failed knots on ≡ some_bad knots Q xs
 
--- what the graph waits for tells whether what interferes has ended, and whether some of it has failed
+-- what the graph waits for among siblings in order tells whether what interferes has ended, and whether some of it has failed
 abbrev pub WaitsAreTold : Type 0
-WaitsAreTold = (knots : List Knot) (Q : List Requirement) (xs : List Sibling) (on : List OpNumber) → WaitsFor knots Q xs on → WaitsTell knots Q xs on
+WaitsAreTold = (knots : List Knot) (Q : List Requirement) (xs : List Sibling) (on : List OpNumber) → AreOrdered knots xs → WaitsFor knots Q xs on → WaitsTell knots Q xs on
 
 -- what shows is settled: settling it again, as each step on the way to an operation does, changes nothing
 abbrev pub ShownIsSettled : Type 0

@@ -13,7 +13,8 @@ pub fn new_boards_show()
     ensures { NewBoardsShow }
 {}
 
-/// What the graph waits for tells whether all that interferes has ended, and whether some of it has failed.
+/// What the graph waits for among siblings in order tells whether all that interferes has ended, and whether some of it has
+/// failed.
 #[tactic(auto, using(crate::proofs::Told::waits_are_told))]
 pub fn waits_are_told()
     ensures { WaitsAreTold }

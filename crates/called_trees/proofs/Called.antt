@@ -1,16 +1,17 @@
 -- A call that is issued: the caller goes on, and behind its children comes one more, which begins, or is dropped at once.
 use Rattle.std.proofs.Common.{◌≡◌, ◌<◌, ◌+◌, ◌++◌, ◌∷◌, ◌∙◌, ⊎_elim, inl, ℕ, suc, Bool, List, None, Some, [], ap, append-nil, append_assoc, arith, cond, false, length, map, refl, subst, sym, true}
-use Rattle.std.specs.Prelude.{All, slice_get}
+use Rattle.std.specs.Prelude.{All, set, slice_get}
+use Rattle.std.proofs.lemmas.Bool.{false≢true}
 use Rattle.std.proofs.lemmas.List.Elements.{All-contains, All-weaker}
 use Rattle.std.proofs.lemmas.Option.{same_Some}
-use Rattle.region_finder.specs.Listings.{Listed}
-use Rattle.region_tree.specs.Needs.{requirements_of}
+use Rattle.region_finder.specs.Listings.{Listed, needs_in}
+use Rattle.region_tree.specs.Needs.{AreNeeds, requirements_of}
 use Rattle.region_tree.specs.Requirements.{Requirement}
 use Rattle.region_tree.specs.declared.tree.OpNumber.{OpNumber}
 use Rattle.region_tree.specs.declared.tree.RootId.{RootId}
 use Rattle.logical_map.specs.Maps.{LogicalMap, columns_of, is_live}
 use Rattle.dependence_graph.specs.Entries.{Knot}
-use Rattle.dependence_graph.specs.Knots.{is_done, knot_at, number, some_failed}
+use Rattle.dependence_graph.specs.Knots.{knot_at, number, some_failed}
 use Rattle.dependence_graph.specs.declared.stage.Stage.TheVariants as knot
 use Rattle.task_code.specs.declared.code.TaskCode.{TaskCode}
 use Rattle.task_code.specs.declared.job.Job.{Job}
@@ -38,12 +39,13 @@ use Rattle.board_terms.specs.Stages as stages
 use Rattle.board_terms.specs.Gives.{also_said, behind_segment, frame_left, with_parts}
 use Rattle.board_terms.specs.States.{State, operation_at}
 use Rattle.board_trees.specs.Frames.{IsSeen}
-use Rattle.board_trees.specs.Names.{IsNaming, requirement_named}
-use Rattle.board_trees.specs.Shows.{IfRuns, IsChild, IsListed, Row, Shows, ShowsBoard, ShowsChildren, siblings}
-use Rattle.board_trees.specs.Stages.{ChildrenAre, Stands, WaitsWell}
+use Rattle.board_trees.specs.Names.{IsNaming, pointed, requirement_named}
+use Rattle.board_trees.specs.Shows.{AreListed, IfRuns, IsChild, Row, Shows, ShowsBoard, ShowsChildren, siblings}
+use Rattle.board_trees.specs.Stages.{ChildrenAre, Stands, WaitsWell, was_begun}
 use Rattle.board_trees.specs.Told.{some_bad}
-use Rattle.board_trees.specs.Waits.{Sibling, WaitsFor}
+use Rattle.board_trees.specs.Waits.{Sibling, WaitsFor, has_ended}
 use Rattle.board_trees.proofs.Kept.{seen_as}
+use Rattle.board_trees.proofs.Ordered.{children_ordered}
 use Rattle.board_trees.proofs.Told.{waits_are_told}
 use Rattle.given_trees.proofs.Left.{left_seen, none_held}
 use Rattle.given_trees.proofs.Maps.{fields_same, parts_live, parts_shapes}
@@ -52,13 +54,14 @@ use Rattle.changed_trees.specs.Given.{effects_of, left_of}
 use Rattle.changed_trees.specs.Open.{IsOpen, OpenRow}
 use Rattle.board_trees.proofs.Along.{not_above}
 use Rattle.changed_trees.proofs.Below.{children_kept}
-use Rattle.changed_trees.proofs.Kept.{back, seen_kept, shown_match, waits_for_kept, wider_on}
+use Rattle.changed_trees.proofs.Kept.{back, clear_kept, seen_kept, shown_match, waits_for_kept, wider_on}
 use Rattle.changed_trees.proofs.Listed.{waits_are_listed}
 use Rattle.yielded_trees.proofs.Trees.{text_said}
-use Rattle.called_trees.proofs.Changes.{called_to, change, entry_there, row_here, row_new, size_more, some_failed_same, there, way_last}
+use Rattle.called_trees.proofs.Changes.{called_to, change, covered_there, ended_same, entry_there, row_here, row_new, size_more, some_failed_same, there, way_last}
 use Rattle.called_trees.proofs.Child.{child_seen}
-use Rattle.called_trees.proofs.Grown.{count_matches, need_listed, said_more, shows_more}
-use Rattle.called_trees.proofs.Issued.{knot_here, knot_new, length_more}
+use Rattle.called_trees.proofs.Covered.{listed_behind, placed_upward}
+use Rattle.called_trees.proofs.Grown.{count_matches, need_listed, said_more, shows_more, siblings_more}
+use Rattle.called_trees.proofs.Issued.{knot_here, knot_new, length_more, new_ongoing, new_unbegun, not_parked}
 use Rattle.called_trees.proofs.Node as node
 use Rattle.called_trees.proofs.Opens.{all_required}
 use Rattle.called_trees.proofs.Swept.{dropped_if, more_swept, swept}
@@ -119,10 +122,6 @@ module _ (job : Job) (s : State) (b : Board (regent_ground (spaces_of job.code))
 
   abbrev pub ways : List (List ℕ)
   ways = b.ways ++ last ∷ []
-
-  new_ongoing : (q : Bool) → is_done (Some (cond q knot.Dropped knot.Waiting)) ≡ false
-  new_ongoing true = refl
-  new_ongoing false = refl
 
   pub stays_live : (r : ℕ) → is_live s.map r ≡ true → is_live live r ≡ true
   stays_live r l = parts_live a.parts s.map r ∙ l
@@ -231,7 +230,7 @@ module _ (job : Job) (s : State) (b : Board (regent_ground (spaces_of job.code))
     fails_same = some_failed_same job s b h k v at begun caller child new_knot caller_knot entry live refl refl refl (new_ongoing (some_failed s.waits.knots child_on)) (ap number h.knots) (λ w. ap (λ x. is_over (stages.stage_of knot.Begun w x)) act) stays_live stays_field child_on on_issued
 
     fails_bad : some_failed s.waits.knots child_on ≡ some_bad s.waits.knots Q xs
-    fails_bad = (waits_are_told s.waits.knots Q xs child_on awaits).failed
+    fails_bad = (waits_are_told s.waits.knots Q xs child_on (children_ordered job s h.who b.ways v k 0 [] roots o.children is shown.1 tt) awaits).failed
 
     -- it waits, or is dropped
     abbrev stage_by : Bool → BoardStage G
@@ -256,10 +255,6 @@ module _ (job : Job) (s : State) (b : Board (regent_ground (spaces_of job.code))
     child_leaf true = refl
     child_leaf false = tt
 
-    not_parked : (q : Bool) → cond q knot.Dropped knot.Waiting ≡ knot.Parked → ⊥
-    not_parked true e = cc
-    not_parked false e = cc
-
     fresh_roots : wide ++ (operation_at u n).frame.own ≡ wide
     fresh_roots = ap (λ (x : Operation). wide ++ x.frame.own) fresh ∙ append-nil wide
 
@@ -276,6 +271,8 @@ module _ (job : Job) (s : State) (b : Board (regent_ground (spaces_of job.code))
           (subst (λ y. Stands job.code u.roots h.who wide u (cond y knot.Dropped knot.Waiting) child Q (stage_by q)) (sym e) (child_stands q)));
       free = λ p y. absurd (not_parked (some_failed s.waits.knots child_on) (sym (ap (λ (x : Knot). x.stage) fresh_knot) ∙ p));
       waits = subst (λ (x : Knot). WaitsWell job.code u.waits.knots Q Q xs (siblings job (operation_at u n).children no_item) x.on (stage_by q)) (sym fresh_knot) (child_waits q e);
+      begun = λ z. absurd (false≢true (sym (new_unbegun (some_failed s.waits.knots child_on)) ∙ ap (λ (x : Knot). was_begun x.stage) (sym fresh_knot) ∙ z));
+      listed = tt;
       children_are = subst (λ (x : Operation). ChildrenAre job.code u x.children (stage_by q)) (sym fresh) (child_leaf q);
     }
 
@@ -285,21 +282,28 @@ module _ (job : Job) (s : State) (b : Board (regent_ground (spaces_of job.code))
       ap (λ (x : Operation). x.children) fresh,
     )
 
-    -- the graph lists it
-    child_listed : IsListed job u h.who ways k n wide Q
-    child_listed = record {
-      entry = entry;
-      there = entry_there job s b h k v at begun caller child new_knot caller_knot entry live refl refl refl (new_ongoing (some_failed s.waits.knots child_on)) (ap number h.knots) (λ w. ap (λ x. is_over (stages.stage_of knot.Begun w x)) act) stays_live stays_field;
-      op_is = ap number h.knots;
-      context = refl;
-      needs = λ name z. begins.required name z ∙ ap (λ ns. map (requirement_named name) (requirements_of s.tree ns)) (sym (need_listed s.tree first_frame.needs.items));
-    }
+    required_now : (name : ℕ → ℕ) → IsNaming s.roots h.who wide name → pointed Q ≡ map (requirement_named name) (requirements_of s.tree (needs_in entry))
+    required_now name z = begins.required name z ∙ ap (λ ns. map (requirement_named name) (requirements_of s.tree ns)) (sym (need_listed s.tree first_frame.needs.items))
 
-    child_is : IsChild job u h.who ways k n wide Q
+    needs_placed : AreNeeds s.tree (needs_in entry)
+    needs_placed = subst (AreNeeds s.tree) (sym (need_listed s.tree first_frame.needs.items)) begins.placed.needs
+
+    still_ended : (j : ℕ) → j < n → has_ended u.waits.knots j ≡ has_ended s.waits.knots j
+    still_ended j l = ended_same job s b h k v at begun caller child new_knot caller_knot entry live refl refl refl (new_ongoing (some_failed s.waits.knots child_on)) (ap number h.knots) (λ w. ap (λ x. is_over (stages.stage_of knot.Begun w x)) act) stays_live stays_field j l
+
+    -- the graph lists it, and of each earlier one what it doesn't cover
+    all_listed : AreListed job u h.who wide k (xs ++ record { op = n; needs = Q } ∷ [])
+    all_listed = listed_behind job s h.who roots wide k n Q entry live (set s.operations k caller ++ child ∷ []) u.waits back_name required_now needs_placed (need_listed s.tree first_frame.needs.items)
+        (placed_upward job s.tree (λ x l. (h.regions x l).higher) first_frame.needs.items begins.placed.needs)
+        (entry_there job s b h k v at begun caller child new_knot caller_knot entry live refl refl refl (new_ongoing (some_failed s.waits.knots child_on)) (ap number h.knots) (λ w. ap (λ x. is_over (stages.stage_of knot.Begun w x)) act) stays_live stays_field)
+        (ap number h.knots) refl
+        (covered_there job s b h k v at begun caller child new_knot caller_knot entry live refl refl refl (new_ongoing (some_failed s.waits.knots child_on)) (ap number h.knots) (λ w. ap (λ x. is_over (stages.stage_of knot.Begun w x)) act) stays_live stays_field)
+        still_ended xs (siblings_within job s h.who b.ways v k 0 [] roots o.children is shown.1) shown.0.listed
+
+    child_is : IsChild job u h.who ways k n
     child_is = record {
       parent = ap (λ (x : Operation). x.parent) fresh;
       later = within;
-      listed = λ z. child_listed;
     }
 
     -- ---- the caller
@@ -321,7 +325,7 @@ module _ (job : Job) (s : State) (b : Board (regent_ground (spaces_of job.code))
     with_last x = ◌+++◌ G is (said y.text (child_op x no_item))
 
     swept_last : (x : Node G) → tree.sweep G (node.M job s b h k v at within claim before act c calls earlier above D N i f ps wt d is below shown) [] (with_last x) ≡ with_last (dropped_if job s h.who b.ways (node.makings job s b h k v at within claim before act c calls earlier above D N i f ps wt d is below shown) (some_bad s.waits.knots (tree.needs_of G x) xs) x)
-    swept_last x = more_swept job s h.who b.ways (node.makings job s b h k v at within claim before act c calls earlier above D N i f ps wt d is below shown) [] v k 0 [] roots o.children is shown.1 (λ R. refl) y.text x
+    swept_last x = more_swept job s h.who b.ways (node.makings job s b h k v at within claim before act c calls earlier above D N i f ps wt d is below shown) [] v k 0 [] roots o.children is shown.1 tt (λ R. refl) y.text x
 
     pub items_swept : tree.sweep G (node.M job s b h k v at within claim before act c calls earlier above D N i f ps wt d is below shown) [] (with_last (node.child_of job s b h k v at within claim before act c calls earlier above D N i f ps wt d is below shown task)) ≡ js
     items_swept = swept_last (node.child_of job s b h k v at within claim before act c calls earlier above D N i f ps wt d is below shown task) ∙ ap with_last (ap (λ q. dropped_if job s h.who b.ways (node.makings job s b h k v at within claim before act c calls earlier above D N i f ps wt d is below shown) q (node.child_of job s b h k v at within claim before act c calls earlier above D N i f ps wt d is below shown task)) (sym fails_bad) ∙ child_made fails)
@@ -374,6 +378,11 @@ module _ (job : Job) (s : State) (b : Board (regent_ground (spaces_of job.code))
           (subst (λ (x : Operation). Stands job.code u.roots h.who wide u caller_knot.stage x N (idle nothing)) (sym here) (refl, (refl, tt)));
       free = λ p e. ap (λ (x : Knot). x.on) here_knot;
       waits = subst (λ (x : Knot). WaitsWell job.code u.waits.knots D N earlier (siblings job (operation_at u k).children js) x.on (idle nothing)) (sym here_knot) (refl, refl);
+      begun = λ z. clear_kept job s u h.who h.who b.ways ways (λ w. w ≡ v) changes D earlier (shown.0.begun (ap was_begun begun));
+      listed = subst (λ (x : Operation). AreListed job u h.who wide k (siblings job x.children js)) (sym here)
+          (subst (AreListed job u h.who wide k) (sym (siblings_more job o.children (number n ∷ []) is (said y.text (child_op (child_by fails) no_item))
+          (shown_match job s h.who b.ways v k 0 [] roots o.children is shown.1)))
+          all_listed);
     }
 
     kids : ShowsChildren job u h.who ways v k 0 [] wide (o.children ++ number n ∷ []) js

@@ -1,12 +1,12 @@
 -- One operation calls: what others see of the board stays.
-use Rattle.std.proofs.Common.{◌≡◌, ◌<◌, ◌≤◌, ◌⊎◌, ◌+◌, ◌++◌, ◌∷◌, ◌∙◌, ◌&&◌, ◌||◌, inl, inr, ℕ, zero, suc, List, None, Some, [], ap, arith, cond, false, length, not, refl, subst, sym, true}
-use Rattle.std.specs.Prelude.{All, set}
+use Rattle.std.proofs.Common.{◌≡◌, ◌<◌, ◌≤◌, ◌⊎◌, ◌+◌, ◌++◌, ◌∷◌, ◌∙◌, ◌==◌, ◌&&◌, ◌||◌, inl, inr, ℕ, zero, suc, List, None, Some, [], ap, arith, cond, false, length, not, refl, subst, sym, true}
+use Rattle.std.specs.Prelude.{All, nat_lt, set}
 use Rattle.std.specs.List.{Contains}
-use Rattle.std.proofs.lemmas.Bool.{cases_eq, cases_lt, false≢true, le-ltb}
+use Rattle.std.proofs.lemmas.Bool.{cases_eq, cases_lt, false≢true, le-ltb, ne_eqb}
 use Rattle.std.proofs.lemmas.List.{get_or_append_left, get_or-append-add, get_or-set_other, get_or-set_same, length-append, length-set}
 use Rattle.std.proofs.lemmas.List.Elements.{All-head, All-nil, All-tail, Contains-append_left, Contains-append_right}
 use Rattle.std.proofs.lemmas.Option.{none-some, same_Some}
-use Rattle.region_finder.specs.Listings.{Listed, inserted}
+use Rattle.region_finder.specs.Listings.{Listed, all_uncovered, inserted, needs_in, uncovered}
 use Rattle.region_tree.specs.declared.tree.OpNumber.{OpNumber}
 use Rattle.logical_map.specs.Maps.{LogicalMap, columns_of, is_live}
 use Rattle.dependence_graph.specs.Entries.{Knot}
@@ -25,7 +25,9 @@ use Rattle.board_terms.specs.Stages as table
 use Rattle.board_terms.specs.States.{State, no_operation, operation_at}
 use Rattle.board_trees.specs.Shows.{ShowsBoard}
 use Rattle.board_trees.specs.Waits.{has_ended}
+use Rattle.board_trees.proofs.Told.{and_off}
 use Rattle.changed_trees.specs.Changes.{Change, IsAt}
+use Rattle.called_trees.proofs.Covered.{uncovered_else, uncovered_there}
 use Rattle.called_trees.proofs.Issued.{ended_old, inserted_last, knot_here, knot_old, length_more, listed_below, more, stage_here, stage_old, was_here}
 use Rattle.called_trees.proofs.Within.{SpeaksOfIssued, speaks}
 
@@ -56,12 +58,12 @@ module _ (job : Job) (s : State) (b : Board (regent_ground (spaces_of job.code))
   pub within : k < length s.operations
   within = omega (arith, there, h.knots)
 
-  -- the caller is another, the child comes behind all, and so do its knot and what the graph lists
+  -- the caller is another, the child comes behind all, and so do its knot and what the graph lists, which covers earlier ones
   abbrev pub called_to : State
   called_to = record s {
     map = live;
     operations = set s.operations k caller ++ child ∷ [];
-    waits = record { knots = more s.waits.knots new kx k there; listing = inserted e s.waits.listing };
+    waits = record { knots = more s.waits.knots new kx k there; listing = all_uncovered k e.op.0 (needs_in e) (inserted e s.waits.listing) };
   }
 
   rows_long : length (set s.operations k caller) ≡ length s.operations
@@ -137,7 +139,15 @@ module _ (job : Job) (s : State) (b : Board (regent_ground (spaces_of job.code))
         (listed_below (λ j. not (has_ended s.waits.knots j)) (length s.operations) s.waits.listing (omega (arith, within)) h.listed)
 
     pub entry_there : Contains called_to.waits.listing e
-    entry_there = subst (λ ls. Contains ls e) (sym (inserted_last e s.waits.listing listed_before)) (Contains-append_right s.waits.listing (e ∷ []) e (0, omega arith, refl))
+    entry_there = subst (Contains called_to.waits.listing)
+        (uncovered_else k e.op.0 (needs_in e) e (ap (λ q. (e.context.0 == k) && q) (le-ltb e.op.0 e.op.0 (omega arith)) ∙ and_off (e.context.0 == k)))
+        (uncovered_there k e.op.0 (needs_in e) (inserted e s.waits.listing) e
+        (subst (λ ls. Contains ls e) (sym (inserted_last e s.waits.listing listed_before)) (Contains-append_right s.waits.listing (e ∷ []) e (0, omega arith, refl))))
+
+    -- of the others what isn't covered is listed still
+    pub covered_there : (x : Listed) → Contains s.waits.listing x → Contains called_to.waits.listing (uncovered k e.op.0 (needs_in e) x)
+    covered_there x c = uncovered_there k e.op.0 (needs_in e) (inserted e s.waits.listing) x
+        (subst (λ ls. Contains ls x) (sym (inserted_last e s.waits.listing listed_before)) (Contains-append_left s.waits.listing (e ∷ []) x c))
 
     -- one that has ended was issued
     ended_issued : (j : ℕ) → has_ended s.waits.knots j ≡ true → j < length s.operations
@@ -170,8 +180,7 @@ module _ (job : Job) (s : State) (b : Board (regent_ground (spaces_of job.code))
       names = λ r l. refl;
       there = keeps;
       fields = fields;
-      entries = λ j o x q c. listing_more x c;
+      entries = λ j w a n x q f c. subst (Contains called_to.waits.listing)
+          (uncovered_else k e.op.0 (needs_in e) x (ap (λ b. b && nat_lt x.op.0 e.op.0) (ne_eqb x.context.0 k (λ y. other_way j w a n (ap (λ (o : OpNumber). o.0) (sym q) ∙ y)))))
+          (covered_there x c);
     }
-      where
-        listing_more : (x : Listed) → Contains s.waits.listing x → Contains called_to.waits.listing x
-        listing_more x c = subst (λ ls. Contains ls x) (sym (inserted_last e s.waits.listing listed_before)) (Contains-append_left s.waits.listing (e ∷ []) x c)

@@ -47,6 +47,12 @@ module _ (job : Job) where
   count_matches [] (child_op n is) h = absurd h
   count_matches (k ∷ ks) (child_op n is) h = ap (λ n. suc n) (count_matches ks is h)
 
+  pub siblings_more : (ks more : List OpNumber) (is js : Items G) → Matches job ks is → siblings job (ks ++ more) (◌+++◌ G is js) ≡ siblings job ks is ++ siblings job more js
+  siblings_more ks more no_item js h = ap (λ ks. siblings job (ks ++ more) js) h
+  siblings_more ks more (said t is) js h = siblings_more ks more is js h
+  siblings_more [] more (child_op n is) js h = absurd h
+  siblings_more (k ∷ ks) more (child_op n is) js h = ap (λ xs. record { op = k.0; needs = needs_issued job n } ∷ xs) (siblings_more ks more is js h)
+
   module _ (s : State) (who : ℕ → ℕ) (ways : List (List ℕ)) where
     pub shows_more : (way : List ℕ) (j c : ℕ) (earlier : List Sibling) (roots : List RootId) (ks more : List OpNumber) (is js : Items G) →
         ShowsChildren job s who ways way j c earlier roots ks is →

@@ -9,7 +9,23 @@ use Rattle.region_finder.specs.Listings.{Listed, inserted, listed_ops}
 use Rattle.region_tree.specs.declared.tree.OpNumber.{OpNumber}
 use Rattle.dependence_graph.specs.Entries.{Knot}
 use Rattle.dependence_graph.specs.Knots.{is_done, knot_at, no_knot, number, stage_at}
+use Rattle.dependence_graph.specs.declared.stage.Stage.TheVariants as knot
+use Rattle.board_trees.specs.Stages.{was_begun}
 use Rattle.board_trees.specs.Waits.{has_ended}
+
+-- ---- one that is issued waits, or is dropped
+
+pub new_ongoing : (q : Bool) → is_done (Some (cond q knot.Dropped knot.Waiting)) ≡ false
+new_ongoing true = refl
+new_ongoing false = refl
+
+pub new_unbegun : (q : Bool) → was_begun (cond q knot.Dropped knot.Waiting) ≡ false
+new_unbegun true = refl
+new_unbegun false = refl
+
+pub not_parked : (q : Bool) → cond q knot.Dropped knot.Waiting ≡ knot.Parked → ⊥
+not_parked true e = cc
+not_parked false e = cc
 
 -- ---- knots
 

@@ -2,6 +2,7 @@ pub mod Opens
 pub mod Child
 pub mod Swept
 pub mod Issued
+pub mod Covered
 pub mod Within
 pub mod Changes
 pub mod Table

@@ -1,5 +1,5 @@
 -- What a give that yields a call makes of the operation in the tree: a child more, or a broken operation, as on the table.
-use Rattle.std.proofs.Common.{◌≡◌, ◌<◌, ◌++◌, ◌∷◌, ◌∙◌, ◌&&◌, ℕ, suc, Bool, List, None, Option, Some, [], ap, cond, false, length, map, option_map, refl, subst, sym, true}
+use Rattle.std.proofs.Common.{◌≡◌, ◌<◌, ◌++◌, ◌∷◌, ◌∙◌, ◌&&◌, ℕ, suc, Bool, List, None, Option, Some, [], ap, cond, false, length, map, refl, subst, sym, true}
 use Rattle.std.specs.Prelude.{All, nat_le, slice_get}
 use Rattle.std.proofs.lemmas.List.Elements.{All-append, All-head, All-weaker}
 use Rattle.std.proofs.lemmas.Option.{none-some, same_Some}

@@ -1,10 +1,10 @@
 -- A call that is issued leaves an open board.
-use Rattle.std.proofs.Common.{◌≡◌, ◌<◌, ◌+◌, ◌-◌, ◌++◌, ◌∷◌, ◌∙◌, ℕ, suc, Bool, List, Some, [], ap, append-nil, arith, cond, false, length, map, not, refl, subst, sym, true}
+use Rattle.std.proofs.Common.{◌≡◌, ◌<◌, ◌+◌, ◌-◌, ◌++◌, ◌∷◌, ◌∙◌, ℕ, suc, List, Some, [], ap, append-nil, arith, length, map, not, refl, subst, sym, true}
 use Rattle.std.specs.Prelude.{All, filter, slice_get}
 use Rattle.std.proofs.lemmas.List.{length-append}
 use Rattle.std.proofs.lemmas.List.Elements.{All-nil, All-weaker}
 use Rattle.plain_values.specs.Points.{counted_from}
-use Rattle.region_finder.specs.Listings.{Listed, listed_ops}
+use Rattle.region_finder.specs.Listings.{Listed, inserted, listed_ops, needs_in}
 use Rattle.region_tree.specs.declared.tree.RootId.{RootId}
 use Rattle.logical_map.specs.Maps.{LogicalMap, is_live}
 use Rattle.dependence_graph.specs.Entries.{Knot}
@@ -47,8 +47,9 @@ use Rattle.yielded_trees.proofs.Found.{Here, by_out, here_at}
 use Rattle.yielded_trees.proofs.Trees.{paused_needs, restop}
 use Rattle.called_trees.proofs.Called as called
 use Rattle.called_trees.proofs.Changes.{size_more}
+use Rattle.called_trees.proofs.Covered.{ops_uncovered}
 use Rattle.called_trees.proofs.Grown.{count_more}
-use Rattle.called_trees.proofs.Issued.{length_more, listed_more}
+use Rattle.called_trees.proofs.Issued.{length_more, listed_more, new_ongoing}
 use Rattle.called_trees.proofs.Node as node
 use Rattle.called_trees.proofs.Rows.{claims, leads, own_apart, own_made, own_same, rising}
 use Rattle.called_trees.proofs.Swept.{swept}
@@ -184,14 +185,11 @@ module _ (job : Job) (s : State) (b : Board (regent_ground (spaces_of job.code))
   long : length u.operations ≡ suc (length s.operations)
   long = size_more job s b h k v at begun caller child new_knot caller_knot entry live
 
-  starts : (q : Bool) → is_done (Some (cond q knot.Dropped knot.Waiting)) ≡ false
-  starts true = refl
-  starts false = refl
-
   listed : listed_ops u.waits.listing ≡ map number (filter (λ j. not (has_ended u.waits.knots j)) (counted_from 1 (length u.operations - 1)))
   listed =
       let size : suc (length s.waits.knots) ≡ length u.operations = ap (λ x. suc x) h.knots ∙ sym long in
-      listed_more s.waits.knots new_knot caller_knot k (called.knot_there job s b h k v at within claim before act c calls begun task found goes own_kept) (sym (ap (λ x. is_done (Some x)) begun)) (starts (some_failed s.waits.knots (called.child_on job s b h k v at within claim before act c calls begun task found goes own_kept))) entry s.waits.listing refl
+      ops_uncovered k entry.op.0 (needs_in entry) (inserted entry s.waits.listing)
+      ∙ listed_more s.waits.knots new_knot caller_knot k (called.knot_there job s b h k v at within claim before act c calls begun task found goes own_kept) (sym (ap (λ x. is_done (Some x)) begun)) (new_ongoing (some_failed s.waits.knots (called.child_on job s b h k v at within claim before act c calls begun task found goes own_kept))) entry s.waits.listing refl
       (subst (λ x. listed_ops s.waits.listing ≡ map number (filter (λ j. not (has_ended s.waits.knots j)) (counted_from 1 (x - 1)))) (sym h.knots) h.listed)
       ∙ ap (λ x. map number (filter (λ j. not (has_ended u.waits.knots j)) (counted_from 1 (x - 1)))) size
 

@@ -13,8 +13,9 @@ use Rattle.code_boards.specs.Laws.{machine_of}
 use Rattle.code_boards.specs.Views.{spaces_of}
 use Rattle.board_terms.specs.States.{State}
 use Rattle.board_trees.specs.Shows.{ShowsChildren, needs_issued, siblings}
-use Rattle.board_trees.specs.Told.{some_bad}
+use Rattle.board_trees.specs.Told.{AreOrdered, some_bad}
 use Rattle.board_trees.specs.Waits.{Sibling}
+use Rattle.board_trees.proofs.Ordered.{node_ordered}
 use Rattle.board_trees.proofs.Settled.{node_told, swept_child, unmet, worse, worse_tells}
 
 -- its children are swept
@@ -47,18 +48,19 @@ module _ (job : Job) (s : State) (who : ℕ → ℕ) (ways : List (List ℕ)) (m
 
   -- the children that were there stay, and one more comes behind them
   pub more_swept : (bad : List (List Requirement)) (way : List ℕ) (j c : ℕ) (earlier : List Sibling) (roots : List RootId) (ks : List OpNumber) (is : Items G) →
-      ShowsChildren job s who ways way j c earlier roots ks is → Tells bad earlier → (t : List ℕ) (x : Node G) →
+      ShowsChildren job s who ways way j c earlier roots ks is → AreOrdered s.waits.knots earlier → Tells bad earlier → (t : List ℕ) (x : Node G) →
       tree.sweep G M bad (◌+++◌ G is (said t (child_op x no_item)))
       ≡ ◌+++◌ G is (said t (child_op (dropped_if (some_bad s.waits.knots (tree.needs_of G x) (earlier ++ siblings job ks is)) x) no_item))
-  more_swept bad way j c earlier roots ks no_item h tells t x =
+  more_swept bad way j c earlier roots ks no_item h o tells t x =
       ap (λ y. said t y) (last_swept bad earlier tells x)
       ∙ ap (λ es. said t (child_op (dropped_if (some_bad s.waits.knots (tree.needs_of G x) es) x) no_item)) (sym (append-nil earlier))
-  more_swept bad way j c earlier roots ks (said u is) h tells t x = ap (λ y. said u y) (more_swept bad way j c earlier roots ks is h tells t x)
-  more_swept bad way j c earlier roots [] (child_op n is) h tells t x = absurd h
-  more_swept bad way j c earlier roots (k ∷ ks) (child_op n is) h tells t x =
+  more_swept bad way j c earlier roots ks (said u is) h o tells t x = ap (λ y. said u y) (more_swept bad way j c earlier roots ks is h o tells t x)
+  more_swept bad way j c earlier roots [] (child_op n is) h o tells t x = absurd h
+  more_swept bad way j c earlier roots (k ∷ ks) (child_op n is) h o tells t x =
       let one : Sibling = record { op = k.0; needs = needs_issued job n } in
       swept_child job s who ways makings bad n (◌+++◌ G is (said t (child_op x no_item))) _
-      (unmet job s who ways makings bad (way ++ c ∷ []) k.0 earlier roots n h.1 tells)
+      (unmet job s who ways makings bad (way ++ c ∷ []) k.0 earlier roots n h.1 o tells)
       (more_swept (worse job s who ways makings n bad) way j (suc c) (earlier ++ one ∷ []) roots ks is h.2
+      (node_ordered job s who ways (way ++ c ∷ []) k.0 earlier roots n h.1 o)
       (λ Q. worse_tells job s who ways makings bad earlier k.0 n (node_told job s who ways (way ++ c ∷ []) k.0 earlier roots n h.1) Q (tells Q)) t x
       ∙ ap (λ es. ◌+++◌ G is (said t (child_op (dropped_if (some_bad s.waits.knots (tree.needs_of G x) es) x) no_item))) (append_assoc earlier (one ∷ []) (siblings job ks is)))

@@ -3,7 +3,7 @@ use Rattle.std.proofs.Common.{◌≡◌, ◌<◌, ◌++◌, ◌∷◌, ◌∙◌
 use Rattle.std.specs.Prelude.{set, slice_get}
 use Rattle.std.proofs.lemmas.List.{get_or-set_same, length-set, set-get_or}
 use Rattle.region_tree.specs.declared.tree.OpNumber.{OpNumber}
-use Rattle.region_finder.specs.Listings.{Listed, earlier, listed}
+use Rattle.region_finder.specs.Listings.{Listed, all_uncovered, earlier, inserted, listed}
 use Rattle.dependence_graph.specs.Entries.{Knot}
 use Rattle.dependence_graph.specs.Graphs.{knot_on}
 use Rattle.dependence_graph.specs.Knots.{knot_at, no_knot, number}
@@ -35,6 +35,7 @@ use Rattle.changed_trees.specs.Changes.{IsAt}
 use Rattle.changed_trees.specs.Given.{yielded_by}
 use Rattle.changed_trees.proofs.One.{one_changed}
 use Rattle.called_trees.proofs.Changes.{called_to}
+use Rattle.called_trees.proofs.Grown.{need_listed}
 use Rattle.called_trees.proofs.Opens.{all_declared, declared_on}
 
 -- the declared needs are there
@@ -130,6 +131,17 @@ module _ (job : Job) (s : State) (k : ℕ) (within : k < length s.operations) (b
     pub called_is : opened ≡ Some f → yielded_by job s k before ≡ behind
     called_is e =
         yielded_is ∙ ap by_opening e
+        ∙ (λ i. record behind {
+          operations = set given.operations k (record (operation_at given k) {
+            children = (operation_at given k).children ++ number (length given.operations) ∷ [];
+            wait = wait.Nothing;
+            activity = activity.Idle;
+          }) ++ child ∷ [];
+          waits = record {
+            knots = behind.waits.knots;
+            listing = all_uncovered k (length s.waits.knots) (sym (need_listed s.tree f.needs.items) i) (inserted entry s.waits.listing);
+          };
+        })
         ∙ (λ i. record behind {
           operations = set given.operations k (record (given_row i) {
             children = (given_row i).children ++ number (length-set s.operations k left i) ∷ [];

@@ -1,13 +1,11 @@
 -- A row, and all below it, where nothing changes there.
-use Rattle.std.proofs.Common.{◌≡◌, ◌<◌, ◌≤◌, ◌++◌, ◌∷◌, ◌∙◌, ℕ, suc, List, [], ap, arith, length, map, subst, sym, append-nil, append_assoc}
+use Rattle.std.proofs.Common.{◌≡◌, ◌<◌, ◌≤◌, ◌++◌, ◌∷◌, ◌∙◌, ℕ, suc, List, [], ap, arith, length, map, subst, sym, true, append-nil, append_assoc}
 use Rattle.std.specs.Prelude.{All}
 use Rattle.std.specs.List.{Contains}
-use Rattle.std.proofs.lemmas.Bool.{false≢true, false_from_ne_true}
 use Rattle.std.proofs.lemmas.List.Elements.{All-append}
 use Rattle.region_tree.specs.Requirements.{Requirement}
 use Rattle.region_tree.specs.declared.tree.OpNumber.{OpNumber}
 use Rattle.region_tree.specs.declared.tree.RootId.{RootId}
-use Rattle.region_finder.specs.Listings.{needs_in}
 use Rattle.dependence_graph.specs.Entries.{Knot}
 use Rattle.dependence_graph.specs.Knots.{knot_at}
 use Rattle.dependence_graph.specs.declared.stage.Stage.TheVariants as knot
@@ -21,13 +19,12 @@ use Rattle.code_boards.specs.Views.{spaces_of}
 use Rattle.board_terms.specs.declared.operation.Operation.{Operation}
 use Rattle.board_terms.specs.States.{State, operation_at}
 use Rattle.board_trees.specs.Frames.{IsSeen}
-use Rattle.board_trees.specs.Names.{AreMade, IsNaming, requirement_named}
-use Rattle.board_trees.specs.Shows.{IfRuns, IsChild, Row, Shows, ShowsChildren, needs_issued, siblings}
-use Rattle.board_trees.specs.Stages.{ChildrenAre, Stands, WaitsWell}
-use Rattle.board_trees.specs.Waits.{Sibling, has_ended}
-use Rattle.board_trees.proofs.Named.{is_naming, named_all}
+use Rattle.board_trees.specs.Names.{AreMade, IsNaming}
+use Rattle.board_trees.specs.Shows.{AreListed, IfRuns, IsChild, Row, Shows, ShowsChildren, needs_issued, siblings}
+use Rattle.board_trees.specs.Stages.{ChildrenAre, Stands, WaitsWell, was_begun}
+use Rattle.board_trees.specs.Waits.{Sibling, all_clear}
 use Rattle.changed_trees.specs.Changes.{Change, ChangesKeep, IsWider}
-use Rattle.changed_trees.proofs.Kept.{Matches, back, children_are_kept, has_points, if_runs, needs_there, out_answers, pointed_all, requirements_kept, seen_kept, shown_match, stands_kept, waits_well_kept, wider_on}
+use Rattle.changed_trees.proofs.Kept.{Matches, back, children_are_kept, clear_kept, if_runs, listed_kept, out_answers, seen_kept, shown_match, stands_kept, waits_well_kept, wider_on}
 
 module _ (job : Job) (s u : State) (who now : ℕ → ℕ) (ways later : List (List ℕ)) (At : List ℕ → Type 0) (change : Change job s u who now ways later At)
     (makings : ℕ) (made : AreMade (length s.roots) who makings) (own_made : (k : ℕ) → All (λ (r : RootId). r.0 < length s.roots) (operation_at s k).frame.own) where
@@ -61,28 +58,15 @@ module _ (job : Job) (s u : State) (who now : ℕ → ℕ) (ways later : List (L
             (subst (λ (o : Operation). WaitsWell job.code u.waits.knots D N earlier (siblings job o.children is) (knot_at s.waits.knots j).on st) same
             (waits_well_kept job s u who now ways later At change roots (knot_at s.waits.knots j).stage (operation_at s j) D N earlier (siblings job (operation_at s j).children is)
             (knot_at s.waits.knots j).on st (change.failed j way h.way_is n) h.stands h.waits));
+        begun = subst (λ (x : Knot). was_begun x.stage ≡ true → all_clear u.waits.knots D earlier ≡ true) knot_same (λ b. clear_kept job s u who now ways later At change D earlier (h.begun b));
+        listed = subst (λ (o : Operation). AreListed job u now more j (siblings job o.children is)) same
+            (listed_kept job s u who now ways later At change roots more wider below j (change.entries j way h.way_is n) (siblings job (operation_at s j).children is) h.listed);
         children_are = subst (λ (o : Operation). ChildrenAre job.code u o.children st) same
             (children_are_kept job s u who now ways later At change (operation_at s j).children st (change.over j way h.way_is n) h.children_are);
       }
 
-  pub is_child_kept : (j k : ℕ) (roots more : List RootId) (D : List Requirement) → IsWider u roots more → Below roots → k < length s.operations →
-      IsChild job s who ways j k roots D → IsChild job u now later j k more D
-  is_child_kept j k roots more D wider below there h = record {
-    parent = change.parent k there ∙ h.parent;
-    later = h.later;
-    listed = λ e.
-        let l = h.listed (false_from_ne_true (has_ended s.waits.knots k) (λ t. false≢true (sym e ∙ change.ended k t))) in
-        let some = needs_there s (named_all s.roots who makings made 0) (needs_in l.entry)
-        (subst (All has_points) (l.needs (named_all s.roots who makings made 0) (is_naming s.roots who makings made 0 roots below)) (pointed_all D)) in
-        record {
-          entry = l.entry;
-          there = change.entries k e l.entry l.op_is l.there;
-          op_is = l.op_is;
-          context = l.context;
-          needs = λ name is. l.needs name (back job s u who now ways later At change roots more wider below name is)
-              ∙ ap (map (requirement_named name)) (requirements_kept job s u who now ways later At change (needs_in l.entry) some);
-        };
-  }
+  pub is_child_kept : (j k : ℕ) → k < length s.operations → IsChild job s who ways j k → IsChild job u now later j k
+  is_child_kept j k there h = record { parent = change.parent k there ∙ h.parent; later = h.later }
 
   pub node_within : (way : List ℕ) (k : ℕ) (earlier : List Sibling) (above : List RootId) (n : Node G) → Shows job s who ways way k earlier above n → k < length s.operations
   node_within way k earlier above (op D N i f ps st is) h = h.0.within
@@ -108,7 +92,7 @@ module _ (job : Job) (s u : State) (who now : ℕ → ℕ) (ways later : List (L
     children_kept way j c earlier roots more ks (said t is) wider below apart h = children_kept way j c earlier roots more ks is wider below apart h
     children_kept way j c earlier roots more [] (child_op n is) wider below apart h = absurd h
     children_kept way j c earlier roots more (x ∷ xs) (child_op n is) wider below apart h = (
-      is_child_kept j x.0 roots more (needs_issued job n) wider below (node_within (way ++ c ∷ []) x.0 earlier roots n h.1) h.0,
+      is_child_kept j x.0 (node_within (way ++ c ∷ []) x.0 earlier roots n h.1) h.0,
       shows_kept (way ++ c ∷ []) x.0 earlier roots more n wider below (apart c (omega arith)) h.1,
       children_kept way j (suc c) (earlier ++ record { op = x.0; needs = needs_issued job n } ∷ []) roots more xs is wider below (λ d b. apart d (omega (arith, b))) h.2,
     )

@@ -21,7 +21,7 @@ use Rattle.board_terms.specs.Stages.{is_over}
 use Rattle.board_terms.specs.Stages as table
 use Rattle.board_terms.specs.States.{State, operation_at}
 use Rattle.board_trees.specs.Names.{AreMade}
-use Rattle.board_trees.specs.Shows.{IsChild, Leads, Row, Shows, ShowsChildren, needs_issued, printed, said_in, siblings}
+use Rattle.board_trees.specs.Shows.{AreListed, Leads, Row, Shows, ShowsChildren, needs_issued, printed, said_in, siblings}
 use Rattle.board_trees.specs.Stages.{WaitsWell}
 use Rattle.board_trees.specs.Waits.{Sibling}
 use Rattle.board_trees.proofs.Along.{not_above, open_above, places_same, some_same}
@@ -154,6 +154,8 @@ module _ (job : Job) where
                 free = row.free;
                 waits = subst (λ xs. WaitsWell job.code u.waits.knots D N earlier xs (knot_at u.waits.knots j).on st)
                     (sym (edited_siblings c way (operation_at u j).children is)) row.waits;
+                begun = row.begun;
+                listed = subst (AreListed job u now (more ++ roots) j) (sym (edited_siblings c way (operation_at u j).children is)) row.listed;
                 children_are = row.children_are;
               },
               among_edited c way w j 0 [] (above ++ roots) (more ++ roots) (operation_at s j).children is
@@ -169,8 +171,7 @@ module _ (job : Job) where
             let here : d + 0 ≡ d = omega arith in
             let at : v ≡ (w ++ d ∷ []) ++ way = e ∙ ap (λ z. (w ++ z ∷ []) ++ way) here in
             let same = edited_needs way n in (
-              subst (λ D. IsChild job u now later j k.0 more D) (sym same)
-                  (is_child_kept job s u who now ways later At change makings made own_made j k.0 roots more (needs_issued job n) wider below (has_within way (w ++ d ∷ []) k.0 earlier roots n h.1) h.0),
+              is_child_kept job s u who now ways later At change makings made own_made j k.0 (has_within way (w ++ d ∷ []) k.0 earlier roots n h.1) h.0,
               has_edited way (w ++ d ∷ []) k.0 earlier roots more n at wider below h.1,
               subst (λ D. ShowsChildren job u now later w j (suc d) (earlier ++ record { op = k.0; needs = D } ∷ []) more ks is) (sym same)
                   (children_kept job s u who now ways later At change makings made own_made w j (suc d) (earlier ++ record { op = k.0; needs = needs_issued job n } ∷ []) roots more ks is wider below
@@ -179,7 +180,7 @@ module _ (job : Job) where
         among_edited (suc c) way w j d earlier roots more (k ∷ ks) (child_op n is) e wider below h =
             let there : d + suc c ≡ suc d + c = omega arith in
             let at : v ≡ (w ++ (suc d + c) ∷ []) ++ way = e ∙ ap (λ z. (w ++ z ∷ []) ++ way) there in (
-              is_child_kept job s u who now ways later At change makings made own_made j k.0 roots more (needs_issued job n) wider below
+              is_child_kept job s u who now ways later At change makings made own_made j k.0
                   (node_within job s u who now ways later At change makings made own_made (w ++ d ∷ []) k.0 earlier roots n h.1) h.0,
               shows_kept job s u who now ways later At change makings made own_made (w ++ d ∷ []) k.0 earlier roots more n wider below
                   (beside w (suc d + c) d way at (λ q. absurd (omega (arith, q)))) h.1,

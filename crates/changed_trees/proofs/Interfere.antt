@@ -86,7 +86,7 @@ never true true false = refl
 never true false c = refl
 never false b c = refl
 
-pointed_left : (a b : List Requirement) → interfere (pointed a) b ≡ interfere a b
+pub pointed_left : (a b : List Requirement) → interfere (pointed a) b ≡ interfere a b
 pointed_left [] b = refl
 pointed_left (r ∷ rs) b = by_points r.points refl (pointed_left rs b)
   where

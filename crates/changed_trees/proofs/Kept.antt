@@ -1,23 +1,24 @@
 -- What shows goes on to be shown where a state changes elsewhere.
-use Rattle.std.proofs.Common.{◌≡◌, ◌<◌, ◌≤◌, ◌⊎◌, ◌++◌, ◌∷◌, ◌∙◌, ◌||◌, ⊎_elim, inl, inr, ℕ, zero, suc, Bool, List, None, Option, Some, [], ap, arith, false, length, map, not, refl, subst, sym, true}
+use Rattle.std.proofs.Common.{◌≡◌, ◌<◌, ◌⊎◌, ◌++◌, ◌∷◌, ◌∙◌, ◌||◌, ⊎_elim, inl, inr, ℕ, zero, suc, Bool, List, None, Option, Some, [], ap, false, length, map, not, refl, subst, sym, true}
 use Rattle.std.specs.Prelude.{All, filter, slice_get}
 use Rattle.std.specs.List.{Contains}
-use Rattle.std.proofs.lemmas.Bool.{and_from, and_parts, cases_Bool, cases_lt}
-use Rattle.std.proofs.lemmas.List.{get_or_past}
+use Rattle.std.proofs.lemmas.Bool.{and_from, and_parts, cases_Bool, false≢true, false_from_ne_true}
 use Rattle.std.proofs.lemmas.List.Elements.{All-append, All-contains, All-contains_itself, All-cons, All-head, All-nil, All-tail, All-weaker, Contains-append_left, Contains-append_right}
-use Rattle.region_tree.specs.Needs.{AreNeeds, IsNeed, requirement_of, requirements_of}
+use Rattle.plain_values.specs.Points.{within}
+use Rattle.region_finder.specs.Forests.{Upward}
+use Rattle.region_finder.specs.Listings.{Listed, PlacedNeed, needs_in}
+use Rattle.region_tree.specs.Needs.{AreNeeds, IsNeed, requirements_of}
 use Rattle.region_tree.specs.Requirements.{Requirement, interfere, is_of}
-use Rattle.region_tree.specs.Trees.{is_region, no_node, points_of_content, set_at}
+use Rattle.region_tree.specs.Trees.{is_region, node_at, points_of_content, set_at}
 use Rattle.region_tree.specs.Entries.{TreeNode}
 use Rattle.region_tree.specs.declared.needs.Need.{Need}
 use Rattle.region_tree.specs.declared.tree.OpNumber.{OpNumber}
 use Rattle.region_tree.specs.declared.tree.RootId.{RootId}
 use Rattle.logical_map.specs.Fills.{Filling}
 use Rattle.logical_map.specs.Maps.{columns_of, is_live}
-use Rattle.dependence_graph.specs.Knots.{all_done, is_done, is_idle, some_failed, stage_at}
+use Rattle.dependence_graph.specs.Knots.{all_done, is_done, is_idle, number, some_failed, stage_at}
 use Rattle.dependence_graph.specs.declared.stage.Stage.{Stage as Knotted}
 use Rattle.task_code.specs.declared.job.Job.{Job}
-use Rattle.machine_terms.specs.Opening.{with_points}
 use Rattle.machine_terms.specs.Orders.{settled}
 use Rattle.machine_terms.specs.declared.value.RegionValue.{RegionValue}
 use Rattle.machine_terms.specs.declared.value.Value.{Value}
@@ -37,9 +38,9 @@ use Rattle.board_terms.specs.Closings.{all_over}
 use Rattle.board_terms.specs.States.{State}
 use Rattle.board_trees.specs.Frames.{HasPlaces, IsPlaced, IsSeen}
 use Rattle.board_trees.specs.Names.{IsNaming, name_of, pointed, requirement_named}
-use Rattle.board_trees.specs.Shows.{IfRuns, ShowsChildren, needs_issued, siblings}
+use Rattle.board_trees.specs.Shows.{AreListed, IfRuns, IsUpward, ShowsChildren, needs_issued, siblings}
 use Rattle.board_trees.specs.Stages.{AwaitsOn, ChildrenAre, Fills, HasWait, IsFilled, IsWait, Stands, WaitsWell}
-use Rattle.board_trees.specs.Waits.{Sibling, WaitsFor, WaitsForChild, has_ended}
+use Rattle.board_trees.specs.Waits.{Sibling, WaitsFor, WaitsForChild, all_clear, has_ended, is_spared, is_written_over}
 use Rattle.changed_trees.specs.Changes.{Change, IsWider}
 
 -- ---- roots
@@ -78,33 +79,16 @@ module _ (job : Job) where
   shown_match s who ways way j c earlier roots (k ∷ ks) (child_op n is) h =
       shown_match s who ways way j (suc c) (earlier ++ record { op = k.0; needs = needs_issued job n } ∷ []) roots ks is h.2
 
--- ---- what is needed somewhere is a region
-
-abbrev pub has_points : Requirement → Type 0
-has_points r = 0 < length r.points
-
-pub pointed_all : (N : List Requirement) → All has_points (pointed N)
-pointed_all [] = All-nil has_points
-pointed_all (r ∷ rs) = by_points r.points refl (pointed_all rs)
-  where
-    by_points : (xs : List ℕ) → r.points ≡ xs → All has_points (pointed rs) → All has_points (with_points xs r (pointed rs))
-    by_points [] e more = more
-    by_points (x ∷ xs) e more = All-cons has_points r (pointed rs) (subst (λ ys. 0 < length ys) (sym e) (omega arith)) more
+-- ---- needs of regions that are there
 
 module _ (s : State) where
-  abbrev IsThere : Need → Type 0
+  abbrev pub IsThere : Need → Type 0
   IsThere n = n.node.0 < length s.tree.nodes
 
-  pub needs_there : (name : ℕ → ℕ) (ns : List Need) → All has_points (map (requirement_named name) (requirements_of s.tree ns)) → All IsThere ns
-  needs_there name [] h = All-nil IsThere
-  needs_there name (n ∷ ns) h = All-cons IsThere n ns (here (cases_lt n.node.0 (length s.tree.nodes)))
-      (needs_there name ns (All-tail has_points (requirement_named name (requirement_of s.tree n)) (map (requirement_named name) (requirements_of s.tree ns)) h))
-    where
-      here : (n.node.0 < length s.tree.nodes) ⊎ (length s.tree.nodes ≤ n.node.0) → n.node.0 < length s.tree.nodes
-      here (inl l) = l
-      here (inr l) =
-          let some : 0 < length (set_at s.tree n.node.0) = All-head has_points (requirement_named name (requirement_of s.tree n)) (map (requirement_named name) (requirements_of s.tree ns)) h in
-          absurd (omega (arith, some, ap (λ (x : TreeNode). length (points_of_content x.content)) (get_or_past s.tree.nodes n.node.0 no_node l)))
+  pub entry_there : (job : Job) (ms : List PlacedNeed) → All (IsUpward job s.tree) ms → All IsThere (map (λ (m : PlacedNeed). m.need) ms)
+  entry_there job [] h = All-nil IsThere
+  entry_there job (m ∷ ms) h = All-cons IsThere m.need (map (λ (m : PlacedNeed). m.need) ms) (All-head (IsUpward job s.tree) m ms h).there
+      (entry_there job ms (All-tail (IsUpward job s.tree) m ms h))
 
 module _ (job : Job) (s u : State) (who now : ℕ → ℕ) (ways later : List (List ℕ)) (At : List ℕ → Type 0) (change : Change job s u who now ways later At) where
   abbrev G : Ground
@@ -146,6 +130,19 @@ module _ (job : Job) (s u : State) (who now : ℕ → ℕ) (ways later : List (L
         root = h.root ∙ ap (λ (x : TreeNode). x.root) (sym e.1);
       }
 
+  upward_kept : (m : PlacedNeed) → IsUpward job s.tree m → IsUpward job u.tree m
+  upward_kept m h = record {
+    there = (change.nodes m.need.node.0 h.there).0;
+    way = All-weaker
+        (λ (x : Upward). (x.0.0 < length s.tree.nodes) × (is_region (node_at s.tree x.0.0).content ≡ true → within (set_at s.tree m.need.node.0) (set_at s.tree x.0.0) ≡ true))
+        (λ (x : Upward). (x.0.0 < length u.tree.nodes) × (is_region (node_at u.tree x.0.0).content ≡ true → within (set_at u.tree m.need.node.0) (set_at u.tree x.0.0) ≡ true))
+        (λ x q.
+        let same = (change.nodes x.0.0 q.0).1 in (
+          (change.nodes x.0.0 q.0).0,
+          λ e. (λ i. within (sym (set_kept m.need.node.0 h.there) i) (sym (set_kept x.0.0 q.0) i)) ∙ q.1 (ap (λ (y : TreeNode). is_region y.content) (sym same) ∙ e),
+        )) m.way h.way;
+  }
+
   -- ---- names
 
   module _ (roots more : List RootId) (wider : IsWider u roots more) (below : All (λ (r : RootId). r.0 < length s.roots) roots) where
@@ -177,6 +174,32 @@ module _ (job : Job) (s u : State) (who now : ℕ → ℕ) (ways later : List (L
       fields = All-weaker (λ (n : Need). n.field < length (columns_of s.map n.root.0)) (λ (n : Need). n.field < length (columns_of u.map n.root.0))
           (λ n l. change.fields n.root.0 n.field l) o.frame.needs.items h.fields;
     }
+
+    -- ---- what is listed
+
+    module _ (j : ℕ) (stays : (e : Listed) → e.context ≡ number j → has_ended u.waits.knots e.op.0 ≡ false → Contains s.waits.listing e → Contains u.waits.listing e) where
+      pub listed_kept : (xs : List Sibling) → AreListed job s who roots j xs → AreListed job u now more j xs
+      listed_kept [] h = tt
+      listed_kept (x ∷ xs) h = (
+        λ e.
+            let l = h.0 (false_from_ne_true (has_ended s.waits.knots x.op) (λ t. false≢true (sym e ∙ change.ended x.op t))) in
+            let same = requirements_kept (needs_in l.entry) (entry_there s job l.entry.needs l.upward) in
+            let all_same = requirements_kept l.entry.issued (needs_are l.entry.issued l.placed) in
+            record {
+              entry = l.entry;
+              there = stays l.entry l.context (subst (λ (o : OpNumber). has_ended u.waits.knots o.0 ≡ false) (sym l.op_is) e) l.there;
+              op_is = l.op_is;
+              context = l.context;
+              issued = λ name is. l.issued name (back name is) ∙ ap (map (requirement_named name)) all_same;
+              placed = All-weaker (IsNeed s.tree) (IsNeed u.tree) need_kept l.entry.issued l.placed;
+              upward = All-weaker (IsUpward job s.tree) (IsUpward job u.tree) upward_kept l.entry.needs l.upward;
+              alike = λ name other is too. subst (λ rs. map (requirement_named name) rs ≡ map (requirement_named other) rs) same (l.alike name other (back name is) (back other too));
+              own = λ name is. subst (λ rs. All (Contains (pointed x.needs)) (map (requirement_named name) rs)) same (l.own name (back name is));
+              others = λ name is. subst (λ rs. All (λ (r : Requirement). Contains (map (requirement_named name) rs) r ⊎ (is_written_over xs r ≡ true)) (pointed x.needs)) same
+                  (l.others name (back name is));
+            },
+        listed_kept xs h.1,
+      )
 
     -- ---- stages
 
@@ -290,8 +313,14 @@ module _ (job : Job) (s u : State) (who now : ℕ → ℕ) (ways later : List (L
 
   pub waits_for_kept : (Q : List Requirement) (xs : List Sibling) (on : List OpNumber) → WaitsFor s.waits.knots Q xs on → WaitsFor u.waits.knots Q xs on
   waits_for_kept Q [] on h = h
-  waits_for_kept Q (x ∷ xs) on (inl h) = inl (either_ended x.op (not (interfere x.needs Q)) h.0, waits_for_kept Q xs on h.1)
+  waits_for_kept Q (x ∷ xs) on (inl h) = inl (either_ended x.op (is_spared Q x xs) h.0, waits_for_kept Q xs on h.1)
   waits_for_kept Q (x ∷ xs) on (inr h) = inr (h.0, h.1, h.2, waits_for_kept Q xs h.0 h.3)
+
+  pub clear_kept : (Q : List Requirement) (xs : List Sibling) → all_clear s.waits.knots Q xs ≡ true → all_clear u.waits.knots Q xs ≡ true
+  clear_kept Q [] e = refl
+  clear_kept Q (x ∷ xs) e =
+      let parts = and_parts (has_ended s.waits.knots x.op || not (interfere x.needs Q)) (all_clear s.waits.knots Q xs) e in
+      and_from (has_ended u.waits.knots x.op || not (interfere x.needs Q)) (all_clear u.waits.knots Q xs) (either_ended x.op (not (interfere x.needs Q)) parts.0) (clear_kept Q xs parts.1)
 
   waits_for_child_kept : (c : ℕ) (xs : List Sibling) (on : List OpNumber) → WaitsForChild s.waits.knots c xs on → WaitsForChild u.waits.knots c xs on
   waits_for_child_kept c [] on h = h

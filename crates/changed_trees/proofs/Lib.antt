@@ -2,6 +2,8 @@ pub mod Kept
 pub mod Below
 pub mod Edited
 pub mod Interfere
+pub mod Spared
 pub mod Listed
 pub mod Walks
 pub mod One
+pub mod Contained

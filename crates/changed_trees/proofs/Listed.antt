@@ -1,16 +1,16 @@
 -- What the graph lists tells which children interfere: those that needs wait for.
 use Rattle.std.proofs.Common.{◌≡◌, ◌<◌, ◌+◌, ◌-◌, ◌⊎◌, ◌++◌, ◌∷◌, ◌∙◌, ◌&&◌, ◌||◌, ◌==◌, ⊎_elim, inl, inr, ℕ, suc, zero, Bool, List, Some, [], ap, arith, cond, eq-eqb, eqb-true, false, filter, leb, length, ltb, map, not, refl, subst, sym, true}
 use Rattle.std.specs.Prelude.{All, slice_get}
-use Rattle.std.specs.List.{Contains}
+use Rattle.std.specs.List.{Contains, list_any}
 use Rattle.std.specs.List.Sorted.{IsStrictlyIncreasing}
-use Rattle.std.proofs.lemmas.Bool.{and_from, and_parts, false≢true, leb-true, ltb-true, not-true}
+use Rattle.std.proofs.lemmas.Bool.{and_from, and_parts, false≢true, leb-true, ltb-true, not-true, or_left, or_right}
 use Rattle.std.proofs.lemmas.List.Elements.{All-append, All-contains, All-contains_itself, All-cons, All-head, All-nil, All-weaker, Contains-append_cases, Contains-append_left, Contains-append_right}
 use Rattle.std.proofs.lemmas.Option.{none-some}
 use Rattle.plain_values.specs.Points.{counted_from, has}
 use Rattle.point_sets.proofs.Rising.{Each, has-filter, has-counted_from, has_head, has_tail, has-cons_cases, members_decide, rising-counted_from, rising-filter, rising_cons, rising_head, rising_tail}
 use Rattle.region_finder.specs.Listings.{AreRising, Listed, earlier, interferes_in, listed_ops, needs_in}
 use Rattle.region_tree.specs.Needs.{requirements_of}
-use Rattle.region_tree.specs.Requirements.{Requirement, interfere}
+use Rattle.region_tree.specs.Requirements.{Requirement, conflict, interfere}
 use Rattle.region_tree.specs.declared.needs.Need.{Need}
 use Rattle.region_tree.specs.declared.tree.OpNumber.{OpNumber}
 use Rattle.region_tree.specs.declared.tree.RootId.{RootId}
@@ -26,13 +26,14 @@ use Rattle.code_boards.specs.Laws.{machine_of}
 use Rattle.code_boards.specs.Views.{spaces_of}
 use Rattle.board_terms.specs.States.{State, operation_at}
 use Rattle.board_trees.specs.Names.{AreMade, IsNaming, named, pointed, requirement_named}
-use Rattle.board_trees.specs.Shows.{IsChild, IsListed, Leads, Shows, ShowsChildren, needs_issued, siblings}
-use Rattle.board_trees.specs.Waits.{Sibling, WaitsFor, has_ended}
+use Rattle.board_trees.specs.Shows.{AreListed, IsListed, Leads, Shows, ShowsChildren, needs_issued, needs_listed, siblings}
+use Rattle.board_trees.specs.Waits.{Sibling, WaitsFor, has_ended, is_spared, is_written_over}
 use Rattle.board_trees.proofs.Along.{some_same}
 use Rattle.board_trees.proofs.Named.{is_naming, named_all}
 use Rattle.changed_trees.specs.Changes.{IsAt}
 use Rattle.changed_trees.specs.Listed.{WaitsAreListed}
-use Rattle.changed_trees.proofs.Interfere.{interfere_pointed, interfere_swap}
+use Rattle.changed_trees.proofs.Interfere.{interfere_swap, pointed_left}
+use Rattle.changed_trees.proofs.Spared.{any_there, more_interferes, passing, pointed_in, written_spares}
 use Rattle.changed_trees.proofs.Kept.{Matches, shown_match}
 
 -- ---- what is kept of a list
@@ -117,60 +118,43 @@ module _ (job : Job) (s : State) (who : ℕ → ℕ) (ways : List (List ℕ)) wh
   abbrev G : Ground
   G = regent_ground (spaces_of job.code)
 
-  -- ---- what waits for some waits for those that interfere and haven't ended
-
-  abbrev chosen_of : List Requirement → Sibling → Bool
-  chosen_of Q x = not (has_ended s.waits.knots x.op) && interfere x.needs Q
-
-  waits_chosen : (Q : List Requirement) (xs : List Sibling) → WaitsFor s.waits.knots Q xs (map (λ (x : Sibling). number x.op) (filter (chosen_of Q) xs))
-  waits_chosen Q [] = refl
-  waits_chosen Q (x ∷ xs) = by_tests (has_ended s.waits.knots x.op) (interfere x.needs Q) refl refl (waits_chosen Q xs)
-    where
-      by_tests : (b c : Bool) → has_ended s.waits.knots x.op ≡ b → interfere x.needs Q ≡ c → WaitsFor s.waits.knots Q xs (map (λ (x : Sibling). number x.op) (filter (chosen_of Q) xs)) →
-          WaitsFor s.waits.knots Q (x ∷ xs) (map (λ (x : Sibling). number x.op) (cond (not b && c) (x ∷ filter (chosen_of Q) xs) (filter (chosen_of Q) xs)))
-      by_tests true c e q more = inl (ap (λ d. d || not (interfere x.needs Q)) e, more)
-      by_tests false true e q more = inr (map (λ (x : Sibling). number x.op) (filter (chosen_of Q) xs), refl, q, more)
-      by_tests false false e q more = inl (ap (λ d. has_ended s.waits.knots x.op || not d) q ∙ always (has_ended s.waits.knots x.op), more)
-        where
-          always : (d : Bool) → (d || true) ≡ true
-          always true = refl
-          always false = refl
-
   -- ---- an operation but main is a child
 
-  pub record IsBelow (z : ℕ) : Type 0 where
-    pub caller : ℕ
-    pub place : ℕ
-    pub roots : List RootId
-    pub needs : List Requirement
-    pub there : slice_get (operation_at s caller).children place ≡ Some (number z)
-    pub child : IsChild job s who ways caller z roots needs
+  record IsBelow (z : ℕ) : Type 0 where
+    caller : ℕ
+    place : ℕ
+    roots : List RootId
+    needs : List Requirement
+    there : slice_get (operation_at s caller).children place ≡ Some (number z)
+    later : List Sibling
+    listed : has_ended s.waits.knots z ≡ false → IsListed job s who roots caller z needs later
 
   record ChildAt (j x : ℕ) (roots : List RootId) : Type 0 where
     needs : List Requirement
-    child : IsChild job s who ways j x roots needs
+    later : List Sibling
+    listed : has_ended s.waits.knots x ≡ false → IsListed job s who roots j x needs later
     way : List ℕ
     earlier_ones : List Sibling
     node : Node G
     shows : Shows job s who ways way x earlier_ones roots node
 
   child_at : (c : ℕ) (w : List ℕ) (j d : ℕ) (earlier : List Sibling) (roots : List RootId) (ks : List OpNumber) (is : Items G) (x : ℕ) → slice_get ks c ≡ Some (number x) →
-      ShowsChildren job s who ways w j d earlier roots ks is → ChildAt j x roots
-  child_at c w j d earlier roots ks no_item x q h = absurd (none-some (number x) (ap (λ ks. slice_get ks c) (sym h) ∙ q))
-  child_at c w j d earlier roots ks (said t is) x q h = child_at c w j d earlier roots ks is x q h
-  child_at c w j d earlier roots [] (child_op n is) x q h = absurd h
-  child_at zero w j d earlier roots (k ∷ ks) (child_op n is) x q h =
+      ShowsChildren job s who ways w j d earlier roots ks is → AreListed job s who roots j (siblings job ks is) → ChildAt j x roots
+  child_at c w j d earlier roots ks no_item x q h l = absurd (none-some (number x) (ap (λ ks. slice_get ks c) (sym h) ∙ q))
+  child_at c w j d earlier roots ks (said t is) x q h l = child_at c w j d earlier roots ks is x q h l
+  child_at c w j d earlier roots [] (child_op n is) x q h l = absurd h
+  child_at zero w j d earlier roots (k ∷ ks) (child_op n is) x q h l =
       subst (λ (y : OpNumber). ChildAt j y.0 roots) (some_same k (number x) q)
-      (record { needs = needs_issued job n; child = h.0; way = w ++ d ∷ []; earlier_ones = earlier; node = n; shows = h.1 })
-  child_at (suc c) w j d earlier roots (k ∷ ks) (child_op n is) x q h =
-      child_at c w j (suc d) (earlier ++ record { op = k.0; needs = needs_issued job n } ∷ []) roots ks is x q h.2
+      (record { needs = needs_issued job n; later = siblings job ks is; listed = l.0; way = w ++ d ∷ []; earlier_ones = earlier; node = n; shows = h.1 })
+  child_at (suc c) w j d earlier roots (k ∷ ks) (child_op n is) x q h l =
+      child_at c w j (suc d) (earlier ++ record { op = k.0; needs = needs_issued job n } ∷ []) roots ks is x q h.2 l.1
 
-  pub is_below : (c : ℕ) (way w : List ℕ) (j : ℕ) (earlier : List Sibling) (above : List RootId) (n : Node G) (z : ℕ) → Leads job s j (c ∷ way) z → Shows job s who ways w j earlier above n → IsBelow z
+  is_below : (c : ℕ) (way w : List ℕ) (j : ℕ) (earlier : List Sibling) (above : List RootId) (n : Node G) (z : ℕ) → Leads job s j (c ∷ way) z → Shows job s who ways w j earlier above n → IsBelow z
   is_below c [] w j earlier above (op D N i f ps st is) z l h =
-      let x = child_at c w j 0 [] (above ++ (operation_at s j).frame.own) (operation_at s j).children is l.0 l.1 h.1 in
-      subst IsBelow l.2 (record { caller = j; place = c; roots = above ++ (operation_at s j).frame.own; needs = x.needs; there = l.1; child = x.child })
+      let x = child_at c w j 0 [] (above ++ (operation_at s j).frame.own) (operation_at s j).children is l.0 l.1 h.1 h.0.listed in
+      subst IsBelow l.2 (record { caller = j; place = c; roots = above ++ (operation_at s j).frame.own; needs = x.needs; there = l.1; later = x.later; listed = x.listed })
   is_below c (d ∷ way) w j earlier above (op D N i f ps st is) z l h =
-      let x = child_at c w j 0 [] (above ++ (operation_at s j).frame.own) (operation_at s j).children is l.0 l.1 h.1 in
+      let x = child_at c w j 0 [] (above ++ (operation_at s j).frame.own) (operation_at s j).children is l.0 l.1 h.1 h.0.listed in
       is_below d way x.way l.0 x.earlier_ones (above ++ (operation_at s j).frame.own) x.node z l.2 x.shows
 
   -- ---- children
@@ -180,17 +164,6 @@ module _ (job : Job) (s : State) (who : ℕ → ℕ) (ways : List (List ℕ)) wh
   ops_are ks (said t is) h = ops_are ks is h
   ops_are [] (child_op n is) h = absurd h
   ops_are (k ∷ ks) (child_op n is) h = ap (λ zs. k.0 ∷ zs) (ops_are ks is h)
-
-  abbrev IsEntered : ℕ → List RootId → Sibling → Type 0
-  IsEntered k roots x = has_ended s.waits.knots x.op ≡ false → IsListed job s who ways k x.op roots x.needs
-
-  entered : (w : List ℕ) (j d : ℕ) (earlier : List Sibling) (roots : List RootId) (ks : List OpNumber) (is : Items G) → ShowsChildren job s who ways w j d earlier roots ks is →
-      All (IsEntered j roots) (siblings job ks is)
-  entered w j d earlier roots ks no_item h = All-nil (IsEntered j roots)
-  entered w j d earlier roots ks (said t is) h = entered w j d earlier roots ks is h
-  entered w j d earlier roots [] (child_op n is) h = absurd h
-  entered w j d earlier roots (k ∷ ks) (child_op n is) h = All-cons (IsEntered j roots) (record { op = k.0; needs = needs_issued job n }) (siblings job ks is) h.0.listed
-      (entered w j (suc d) (earlier ++ record { op = k.0; needs = needs_issued job n } ∷ []) roots ks is h.2)
 
   has_place : (ks : List OpNumber) (c z : ℕ) → slice_get ks c ≡ Some (number z) → has (map (λ (k : OpNumber). k.0) ks) z ≡ true
   has_place [] c z q = absurd (none-some (number z) q)
@@ -253,13 +226,14 @@ module _ (job : Job) (s : State) (who : ℕ → ℕ) (ways : List (List ℕ)) wh
         by_way [] q unended pos = absurd (omega (arith, q, pos))
         by_way (d ∷ way) q unended pos =
             let b = is_below d way [] 0 [] [] T l.op.0 q shows in
-            let e = b.child.listed unended in
+            let e = b.listed unended in
             let same : l ≡ e.entry = one_entry s.waits.listing entries_rise l e.entry c e.there (ap (λ (k : OpNumber). k.0) (sym e.op_is)) in
             let caller : l.context.0 ≡ b.caller = ap (λ (x : Listed). x.context.0) same ∙ ap (λ (k : OpNumber). k.0) e.context in
             (b.place, ap (λ j. slice_get (operation_at s j).children b.place) caller ∙ b.there)
 
     module _ (w : List ℕ) (k : ℕ) (roots : List RootId) (is : Items G) (below : All (λ (r : RootId). r.0 < length s.roots) roots)
-        (children : ShowsChildren job s who ways w k 0 [] roots (operation_at s k).children is) (needs : List Need) (Q : List Requirement)
+        (children : ShowsChildren job s who ways w k 0 [] roots (operation_at s k).children is) (entered : AreListed job s who roots k (siblings job (operation_at s k).children is))
+        (needs : List Need) (Q : List Requirement)
         (required : (name : ℕ → ℕ) → IsNaming s.roots who roots name → pointed Q ≡ map (requirement_named name) (requirements_of s.tree needs)) where
       abbrev xs : List Sibling
       xs = siblings job (operation_at s k).children is
@@ -270,17 +244,13 @@ module _ (job : Job) (s : State) (who : ℕ → ℕ) (ways : List (List ℕ)) wh
       naming : IsNaming s.roots who roots name
       naming = is_naming s.roots who makings made 0 roots below
 
+      abbrev needs_of : Listed → List Requirement
+      needs_of l = needs_listed job s who roots name l
+
       -- interference is told alike
-      alike : (D : List Requirement) (ns : List Need) → pointed D ≡ map (requirement_named name) (requirements_of s.tree ns) →
-          interfere (requirements_of s.tree needs) (requirements_of s.tree ns) ≡ interfere D Q
-      alike D ns e = sym (interfere_to name (same_root (named name) naming.one) (requirements_of s.tree needs) (requirements_of s.tree ns))
-          ∙ (λ i. interfere (sym (required name naming) i) (sym e i)) ∙ interfere_pointed Q D ∙ interfere_swap Q D
-
-      abbrev Entered : Sibling → Type 0
-      Entered = IsEntered k roots
-
-      entered_here : All Entered xs
-      entered_here = entered w k 0 [] roots (operation_at s k).children is children
+      alike : (l : Listed) → interfere (requirements_of s.tree needs) (requirements_of s.tree (needs_in l)) ≡ interfere (needs_of l) Q
+      alike l = sym (interfere_to name (same_root (named name) naming.one) (requirements_of s.tree needs) (requirements_of s.tree (needs_in l)))
+          ∙ ap (λ rs. interfere rs (needs_of l)) (sym (required name naming)) ∙ pointed_left Q (needs_of l) ∙ interfere_swap Q (needs_of l)
 
       ops_here : map (λ (x : Sibling). x.op) xs ≡ map (λ (k : OpNumber). k.0) (operation_at s k).children
       ops_here = ops_are (operation_at s k).children is (shown_match job s who ways w k 0 [] roots (operation_at s k).children is children)
@@ -288,8 +258,12 @@ module _ (job : Job) (s : State) (who : ℕ → ℕ) (ways : List (List ℕ)) wh
       abbrev told_by_graph : List ℕ
       told_by_graph = map entry_op (filter (interferes_in s.tree k needs) s.waits.listing)
 
+      -- the listed operations that interfere are these children
+      abbrev heard : Sibling → Bool
+      heard x = has told_by_graph x.op
+
       abbrev told_by_tree : List ℕ
-      told_by_tree = map (λ (x : Sibling). x.op) (filter (chosen_of Q) xs)
+      told_by_tree = map (λ (x : Sibling). x.op) (filter heard xs)
 
       to_tree : (z : ℕ) → has told_by_graph z ≡ true → has told_by_tree z ≡ true
       to_tree z e =
@@ -300,13 +274,8 @@ module _ (job : Job) (s : State) (who : ℕ → ℕ) (ways : List (List ℕ)) wh
           let in_children : has (map (λ (x : Sibling). x.op) xs) h.one.op.0 ≡ true = ap (λ zs. has zs h.one.op.0) ops_here
           ∙ has_place (operation_at s k).children b.0 h.one.op.0 (ap (λ j. slice_get (operation_at s j).children b.0) (sym context) ∙ b.1) in
           let x = found (λ (x : Sibling). x.op) (λ (x : Sibling). true) xs h.one.op.0 (ap (λ ys. has (map (λ (x : Sibling). x.op) ys) h.one.op.0) (all_kept xs) ∙ in_children) in
-          let unended : has_ended s.waits.knots x.one.op ≡ false = ap (has_ended s.waits.knots) x.is ∙ (entry_is h.one h.there).0 in
-          let l = All-contains Entered xs x.one entered_here x.there unended in
-          let same : h.one ≡ l.entry = one_entry s.waits.listing entries_rise h.one l.entry h.there l.there (sym x.is ∙ ap (λ (k : OpNumber). k.0) (sym l.op_is)) in
-          let interferes : interfere x.one.needs Q ≡ true = sym (alike x.one.needs (needs_in l.entry) (l.needs name naming))
-          ∙ ap (λ (y : Listed). interfere (requirements_of s.tree needs) (requirements_of s.tree (needs_in y))) (sym same) ∙ passes.1 in
-          ap (has told_by_tree) (sym h.is ∙ sym x.is)
-          ∙ kept (λ (x : Sibling). x.op) (chosen_of Q) xs x.one x.there (and_from (not (has_ended s.waits.knots x.one.op)) (interfere x.one.needs Q) (ap not unended) interferes)
+          let same : x.one.op ≡ z = x.is ∙ h.is in
+          ap (has told_by_tree) (sym same) ∙ kept (λ (x : Sibling). x.op) heard xs x.one x.there (ap (has told_by_graph) same ∙ e)
         where
           all_kept : (ys : List Sibling) → filter (λ (x : Sibling). true) ys ≡ ys
           all_kept [] = refl
@@ -314,17 +283,12 @@ module _ (job : Job) (s : State) (who : ℕ → ℕ) (ways : List (List ℕ)) wh
 
       to_graph : (z : ℕ) → has told_by_tree z ≡ true → has told_by_graph z ≡ true
       to_graph z e =
-          let x = found (λ (x : Sibling). x.op) (chosen_of Q) xs z e in
-          let passes = and_parts (not (has_ended s.waits.knots x.one.op)) (interfere x.one.needs Q) x.passes in
-          let l = All-contains Entered xs x.one entered_here x.there (not-true (has_ended s.waits.knots x.one.op) passes.0) in
-          ap (has told_by_graph) (sym x.is ∙ ap (λ (k : OpNumber). k.0) (sym l.op_is))
-          ∙ kept entry_op (interferes_in s.tree k needs) s.waits.listing l.entry l.there
-          (and_from (l.entry.context.0 == k) (interfere (requirements_of s.tree needs) (requirements_of s.tree (needs_in l.entry)))
-          (eq-eqb l.entry.context.0 k (ap (λ (j : OpNumber). j.0) l.context)) (alike x.one.needs (needs_in l.entry) (l.needs name naming) ∙ passes.1))
+          let x = found (λ (x : Sibling). x.op) heard xs z e in
+          ap (has told_by_graph) (sym x.is) ∙ x.passes
 
       numbers_same : told_by_graph ≡ told_by_tree
       numbers_same = members_decide told_by_graph told_by_tree (rising_kept entry_op (interferes_in s.tree k needs) s.waits.listing entries_rise)
-          (rising_kept (λ (x : Sibling). x.op) (chosen_of Q) xs (subst IsStrictlyIncreasing (sym ops_here) (rising k)))
+          (rising_kept (λ (x : Sibling). x.op) heard xs (subst IsStrictlyIncreasing (sym ops_here) (rising k)))
           (λ z. iff (has told_by_graph z) (has told_by_tree z) (to_tree z) (to_graph z))
         where
           iff : (a b : Bool) → (a ≡ true → b ≡ true) → (b ≡ true → a ≡ true) → a ≡ b
@@ -332,11 +296,62 @@ module _ (job : Job) (s : State) (who : ℕ → ℕ) (ways : List (List ℕ)) wh
           iff false true f g = g refl
           iff false false f g = refl
 
+      module _ (x : Sibling) (later : List Sibling) (listed_if : has_ended s.waits.knots x.op ≡ false → IsListed job s who roots k x.op x.needs later) where
+        -- one of these interferes
+        heard_interferes : heard x ≡ true → interfere x.needs Q ≡ true
+        heard_interferes e =
+            let h = found entry_op (interferes_in s.tree k needs) s.waits.listing x.op e in
+            let passes = and_parts (h.one.context.0 == k) (interfere (requirements_of s.tree needs) (requirements_of s.tree (needs_in h.one))) h.passes in
+            let l = listed_if (ap (has_ended s.waits.knots) (sym h.is) ∙ (entry_is h.one h.there).0) in
+            let same : h.one ≡ l.entry = one_entry s.waits.listing entries_rise h.one l.entry h.there l.there (h.is ∙ ap (λ (k : OpNumber). k.0) (sym l.op_is)) in
+            let meets : interfere (needs_of l.entry) Q ≡ true = sym (alike l.entry)
+            ∙ ap (λ (y : Listed). interfere (requirements_of s.tree needs) (requirements_of s.tree (needs_in y))) (sym same) ∙ passes.1 in
+            sym (pointed_left x.needs Q) ∙ more_interferes (pointed x.needs) (needs_of l.entry) Q (l.own name naming) meets
+
+        -- one that isn't needn't be waited for
+        unheard_entry : heard x ≡ false → (n : has_ended s.waits.knots x.op ≡ false) → interfere (needs_of (listed_if n).entry) Q ≡ true → ⊥
+        unheard_entry e n t =
+            let l = listed_if n in
+            false≢true (sym e ∙ ap (has told_by_graph) (ap (λ (k : OpNumber). k.0) (sym l.op_is))
+            ∙ kept entry_op (interferes_in s.tree k needs) s.waits.listing l.entry l.there
+            (and_from (l.entry.context.0 == k) (interfere (requirements_of s.tree needs) (requirements_of s.tree (needs_in l.entry)))
+            (eq-eqb l.entry.context.0 k (ap (λ (j : OpNumber). j.0) l.context)) (alike l.entry ∙ t)))
+
+        unheard_spared : heard x ≡ false → has_ended s.waits.knots x.op ≡ false → is_spared Q x later ≡ true
+        unheard_spared e n = by_test (interfere x.needs Q) refl
+          where
+            by_test : (b : Bool) → interfere x.needs Q ≡ b → is_spared Q x later ≡ true
+            by_test false q = or_left (not (interfere x.needs Q)) (list_any (λ (y : Sibling). interfere y.needs Q && interfere x.needs y.needs) later) (ap not q)
+            by_test true q =
+                let l = listed_if n in
+                let r = passing (λ (r : Requirement). list_any (conflict r) Q) (pointed x.needs) (pointed_left x.needs Q ∙ q) in
+                or_right (not (interfere x.needs Q)) (list_any (λ (y : Sibling). interfere y.needs Q && interfere x.needs y.needs) later)
+                (⊎_elim
+                (λ c. absurd (unheard_entry e n (any_there (λ (r : Requirement). list_any (conflict r) Q) (needs_of l.entry) r.one c r.passes)))
+                (λ o. written_spares x.needs Q later r.one (All-contains (Contains x.needs) (pointed x.needs) r.one (pointed_in x.needs) r.there) r.passes o)
+                (All-contains (λ (r : Requirement). Contains (needs_of l.entry) r ⊎ (is_written_over later r ≡ true)) (pointed x.needs) r.one (l.others name naming) r.there))
+
+        unheard_passed : heard x ≡ false → (has_ended s.waits.knots x.op || is_spared Q x later) ≡ true
+        unheard_passed e = by_test (has_ended s.waits.knots x.op) refl
+          where
+            by_test : (b : Bool) → has_ended s.waits.knots x.op ≡ b → (has_ended s.waits.knots x.op || is_spared Q x later) ≡ true
+            by_test true q = or_left (has_ended s.waits.knots x.op) (is_spared Q x later) q
+            by_test false q = or_right (has_ended s.waits.knots x.op) (is_spared Q x later) (unheard_spared e q)
+
+      waits_heard : (ys : List Sibling) → AreListed job s who roots k ys → WaitsFor s.waits.knots Q ys (map (λ (x : Sibling). number x.op) (filter heard ys))
+      waits_heard [] l = refl
+      waits_heard (y ∷ ys) l = by_test (heard y) refl (waits_heard ys l.1)
+        where
+          by_test : (b : Bool) → heard y ≡ b → WaitsFor s.waits.knots Q ys (map (λ (x : Sibling). number x.op) (filter heard ys)) →
+              WaitsFor s.waits.knots Q (y ∷ ys) (map (λ (x : Sibling). number x.op) (cond b (y ∷ filter heard ys) (filter heard ys)))
+          by_test true e more = inr (map (λ (x : Sibling). number x.op) (filter heard ys), refl, heard_interferes y ys l.0 e, more)
+          by_test false e more = inl (unheard_passed y ys l.0 e, more)
+
       -- needs wait for the children that interfere, by what the graph lists
       pub waits_for_listed : WaitsFor s.waits.knots Q xs (earlier s.tree s.waits.listing k needs)
       waits_for_listed = subst (WaitsFor s.waits.knots Q xs)
-          (of_siblings (filter (chosen_of Q) xs) ∙ ap (map number) (sym numbers_same) ∙ sym (of_entries (filter (interferes_in s.tree k needs) s.waits.listing)))
-          (waits_chosen Q xs)
+          (of_siblings (filter heard xs) ∙ ap (map number) (sym numbers_same) ∙ sym (of_entries (filter (interferes_in s.tree k needs) s.waits.listing)))
+          (waits_heard xs entered)
         where
           of_siblings : (ys : List Sibling) → map (λ (x : Sibling). number x.op) ys ≡ map number (map (λ (x : Sibling). x.op) ys)
           of_siblings [] = refl
@@ -357,4 +372,4 @@ pub waits_are_listed : WaitsAreListed
 waits_are_listed job s b h way k before above D N i f ps st is shown below needs Q required =
     waits_for_listed job s h.who b.ways b.state.tree h.shows h.leads (λ k l. way_found job b.ways k (subst (λ n. k < n) (sym h.ways) l)) h.listed h.rising
     (made_in (regent_ground (spaces_of job.code)) (machine_of job) b.state.tree) h.made h.own_made
-    way k (above ++ (operation_at s k).frame.own) is (All-append (λ (r : RootId). r.0 < length s.roots) above (operation_at s k).frame.own below (h.own_made k)) shown.1 needs Q required
+    way k (above ++ (operation_at s k).frame.own) is (All-append (λ (r : RootId). r.0 < length s.roots) above (operation_at s k).frame.own below (h.own_made k)) shown.1 shown.0.listed needs Q required

@@ -21,7 +21,7 @@ use Rattle.board_terms.specs.Stages as table
 use Rattle.board_terms.specs.States.{State, no_operation, operation_at}
 use Rattle.board_trees.specs.Names.{name_of}
 use Rattle.board_trees.proofs.Kept.{by_number}
-use Rattle.board_trees.proofs.Settled.{stage_there}
+use Rattle.board_trees.proofs.Told.{stage_there}
 use Rattle.changed_trees.specs.Changes.{Change, IsAt}
 
 module _ (s : State) (tree : RegionTree) (roots : List Extent) (live : LogicalMap) (k : ℕ) (o : Operation) (x : Knot) where
@@ -121,5 +121,5 @@ module _ (s : State) (tree : RegionTree) (roots : List Extent) (live : LogicalMa
           names = names;
           there = stay;
           fields = fields;
-          entries = λ j e y q c. c;
+          entries = λ j w e n l q f c. c;
         }

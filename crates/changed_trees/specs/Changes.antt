@@ -27,8 +27,9 @@ module _ (job : Job) where
   abbrev pub IsAt : List (List ℕ) → ℕ → List ℕ → Type 0
   IsAt ways k way = way_of (regent_ground (spaces_of job.code)) (machine_of job) ways k ≡ Some way
 
-  -- What others see stays: rows but at the places that are told, what has ended, whose parents are whose, the regions, the
-  -- names of roots, and which roots and fields are there. What waits elsewhere waits for none that has failed.
+  -- What others see stays: rows but at the places that are told, with what is listed of their children, what has ended, whose
+  -- parents are whose, the regions, the names of roots, and which roots and fields are there. What waits elsewhere waits for
+  -- none that has failed.
   pub record Change (s u : State) (who now : ℕ → ℕ) (ways later : List (List ℕ)) (At : List ℕ → Type 0) : Type 0 where
     pub size : (k : ℕ) → k < length s.operations → k < length u.operations
     pub knots : (k : ℕ) → k < length s.waits.knots → k < length u.waits.knots
@@ -45,7 +46,8 @@ module _ (job : Job) where
     pub names : (r : ℕ) → r < length s.roots → name_of u.roots now r ≡ name_of s.roots who r
     pub there : (r : ℕ) → is_live s.map r ≡ true → is_live u.map r ≡ true
     pub fields : (r field : ℕ) → field < length (columns_of s.map r) → field < length (columns_of u.map r)
-    pub entries : (k : ℕ) → has_ended u.waits.knots k ≡ false → (e : Listed) → e.op ≡ number k → Contains s.waits.listing e → Contains u.waits.listing e
+    pub entries : (k : ℕ) (w : List ℕ) → IsAt ways k w → ¬ At w → (e : Listed) → e.context ≡ number k → has_ended u.waits.knots e.op.0 ≡ false →
+        Contains s.waits.listing e → Contains u.waits.listing e
 
 -- an operation that shows, and all below it, show again where nothing changes there, be it that its callers made roots
 abbrev pub ChangesKeep : Type 0

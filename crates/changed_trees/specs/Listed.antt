@@ -18,7 +18,7 @@ use Rattle.board_trees.specs.Shows.{Shows, ShowsBoard, siblings}
 use Rattle.board_trees.specs.Waits.{Sibling, WaitsFor}
 
 -- Where needs of an operation, with roots by their names, are these, the listed operations of its context that interfere
--- with them are its children that do and haven't ended.
+-- with them are its children that do and haven't ended, but maybe for some that a later one of these waits for.
 abbrev pub WaitsAreListed : Type 0
 WaitsAreListed = (job : Job) (s : State) (b : Board (regent_ground (spaces_of job.code))) (h : ShowsBoard job s b) (way : List ℕ) (k : ℕ) (before : List Sibling) (above : List RootId)
     (D N : List Requirement) (i : ℕ) (f : board.Frame) (ps : List (Element (regent_ground (spaces_of job.code)))) (st : Stage (regent_ground (spaces_of job.code)))

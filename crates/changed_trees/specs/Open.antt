@@ -22,9 +22,9 @@ use Rattle.board_terms.specs.Closings.{followed}
 use Rattle.board_terms.specs.States.{State, operation_at}
 use Rattle.board_trees.specs.Frames.{IsSeen}
 use Rattle.board_trees.specs.Names.{AreMade, IsNaming}
-use Rattle.board_trees.specs.Shows.{HoldsMap, IfRuns, IsChild, IsWithinRoot, Leads, Row, Shows, ShowsBoard, ShowsChildren, is_claimed, needs_issued, said_in, siblings}
-use Rattle.board_trees.specs.Stages.{Stands, WaitsWell}
-use Rattle.board_trees.specs.Waits.{Sibling, has_ended}
+use Rattle.board_trees.specs.Shows.{AreListed, HoldsMap, IfRuns, IsChild, IsWithinRoot, Leads, Row, Shows, ShowsBoard, ShowsChildren, is_claimed, needs_issued, said_in, siblings}
+use Rattle.board_trees.specs.Stages.{Stands, WaitsWell, was_begun}
+use Rattle.board_trees.specs.Waits.{Sibling, all_clear, has_ended}
 use Rattle.changed_trees.specs.Changes.{IsAt}
 use Rattle.changed_trees.specs.Edits.{up}
 
@@ -43,6 +43,8 @@ module _ (job : Job) (s : State) (who : ℕ → ℕ) (ways : List (List ℕ)) wh
     pub stands : Stands job.code s.roots who roots s (knot_at s.waits.knots k).stage (operation_at s k) N st
     pub free : (knot_at s.waits.knots k).stage ≡ Parked → st ≡ idle first → (knot_at s.waits.knots k).on ≡ []
     pub waits : WaitsWell job.code s.waits.knots D N earlier (siblings job (operation_at s k).children is) (knot_at s.waits.knots k).on st
+    pub begun : was_begun (knot_at s.waits.knots k).stage ≡ true → all_clear s.waits.knots D earlier ≡ true
+    pub listed : AreListed job s who roots k (siblings job (operation_at s k).children is)
 
   -- it shows, but for that
   abbrev pub IsOpen : List ℕ → ℕ → List Sibling → List RootId → Node (regent_ground (spaces_of job.code)) → Type 0
@@ -68,11 +70,11 @@ module _ (job : Job) (s : State) (who : ℕ → ℕ) (ways : List (List ℕ)) (B
     HasAmong c way w j d earlier roots ks (said t is) = HasAmong c way w j d earlier roots ks is
     HasAmong c way w j d earlier roots [] (child_op n is) = ⊥
     HasAmong zero way w j d earlier roots (k ∷ ks) (child_op n is) =
-        IsChild job s who ways j k.0 roots (needs_issued job n)
+        IsChild job s who ways j k.0
         × HasAt way (w ++ d ∷ []) k.0 earlier roots n
         × ShowsChildren job s who ways w j (suc d) (earlier ++ record { op = k.0; needs = needs_issued job n } ∷ []) roots ks is
     HasAmong (suc c) way w j d earlier roots (k ∷ ks) (child_op n is) =
-        IsChild job s who ways j k.0 roots (needs_issued job n)
+        IsChild job s who ways j k.0
         × Shows job s who ways (w ++ d ∷ []) k.0 earlier roots n
         × HasAmong c way w j (suc d) (earlier ++ record { op = k.0; needs = needs_issued job n } ∷ []) roots ks is
 

@@ -11,7 +11,8 @@ pub fn changes_keep()
     ensures { ChangesKeep }
 {}
 
-/// The listed operations of an operation's context that interfere with needs are its children that do and haven't ended.
+/// The listed operations of an operation's context that interfere with needs are its children that do and haven't ended, but
+/// maybe for some that a later one of these waits for.
 pub fn waits_are_listed()
     ensures { WaitsAreListed }
 {}

@@ -1,7 +1,8 @@
 -- A claim that is taken back.
-use Rattle.std.proofs.Common.{◌≡◌, ◌<◌, ◌++◌, ◌∷◌, ◌∙◌, ◌||◌, ℕ, zero, suc, Bool, List, Some, [], ap, inl, inr, length, not, refl, subst, sym, true, ⊎_elim}
+use Rattle.std.proofs.Common.{◌≡◌, ◌<◌, ◌++◌, ◌∷◌, ◌∙◌, ◌&&◌, ◌||◌, ℕ, zero, suc, Bool, List, Some, [], ap, inl, inr, length, not, refl, subst, sym, true, ⊎_elim}
 use Rattle.std.specs.Prelude.{filter}
-use Rattle.std.proofs.lemmas.Bool.{and_parts, cases_lt}
+use Rattle.std.specs.List.{list_any}
+use Rattle.std.proofs.lemmas.Bool.{and_parts, cases_lt, or_cases, or_left, or_right}
 use Rattle.std.proofs.lemmas.List.{get_or_past}
 use Rattle.region_tree.specs.Requirements.{Requirement, interfere, is_of}
 use Rattle.region_tree.specs.declared.tree.OpNumber.{OpNumber}
@@ -28,13 +29,14 @@ use Rattle.board_terms.specs.Stages.{is_over, stage_of}
 use Rattle.board_terms.specs.States.{State, no_operation, operation_at}
 use Rattle.board_trees.specs.Frames.{IsSeen}
 use Rattle.board_trees.specs.Shows.{Shows, siblings}
-use Rattle.board_trees.specs.Stages.{AwaitsOn, HasFailed, HasValue, HasWait, MayFail, MayIdle, WasStopped}
-use Rattle.board_trees.specs.Told.{all_clear}
-use Rattle.board_trees.specs.Waits.{Sibling, WaitsFor, WaitsForChild, has_ended}
+use Rattle.board_trees.specs.Stages.{AwaitsOn, HasFailed, HasValue, HasWait, MayFail, MayIdle, WasStopped, was_begun}
+use Rattle.board_trees.specs.Told.{AreOrdered}
+use Rattle.board_trees.specs.Waits.{Sibling, WaitsFor, WaitsForChild, all_clear, has_ended, is_spared}
 use Rattle.board_trees.proofs.Along.{Leaves}
 use Rattle.claimed_trees.proofs.Changed.{GoesOn, changed, changes, knots, rows, seen_now, shows_now}
 use Rattle.board_trees.proofs.Kept.{awaits_kept}
 use Rattle.board_trees.proofs.Open.{IsTold}
+use Rattle.board_trees.proofs.Ordered.{children_ordered}
 use Rattle.board_trees.proofs.Settled.{activity_open, wait_open}
 use Rattle.board_trees.proofs.Told.{waits_are_told}
 
@@ -60,10 +62,17 @@ all_clear_waits : (ks : List Knot) (Q : List Requirement) (xs : List Sibling) �
 all_clear_waits ks Q [] e = refl
 all_clear_waits ks Q (x ∷ xs) e =
     let parts = and_parts (has_ended ks x.op || not (interfere x.needs Q)) (all_clear ks Q xs) e in
-    inl (parts.0, all_clear_waits ks Q xs parts.1)
+    inl (
+      ⊎_elim
+          (λ t. or_left (has_ended ks x.op) (is_spared Q x xs) t)
+          (λ t. or_right (has_ended ks x.op) (is_spared Q x xs)
+          (or_left (not (interfere x.needs Q)) (list_any (λ (y : Sibling). interfere y.needs Q && interfere x.needs y.needs) xs) t))
+          (or_cases (has_ended ks x.op) (not (interfere x.needs Q)) parts.0),
+      all_clear_waits ks Q xs parts.1,
+    )
 
-waits_no_more : (ks : List Knot) (Q : List Requirement) (xs : List Sibling) (on : List OpNumber) → WaitsFor ks Q xs on → all_done ks on ≡ true → WaitsFor ks Q xs []
-waits_no_more ks Q xs on h e = all_clear_waits ks Q xs (sym (waits_are_told ks Q xs on h).ready ∙ e)
+waits_no_more : (ks : List Knot) (Q : List Requirement) (xs : List Sibling) (on : List OpNumber) → AreOrdered ks xs → WaitsFor ks Q xs on → all_done ks on ≡ true → WaitsFor ks Q xs []
+waits_no_more ks Q xs on o h e = all_clear_waits ks Q xs (sym (waits_are_told ks Q xs on o h).ready ∙ e)
 
 child_no_more : (ks : List Knot) (c : ℕ) (xs : List Sibling) (on : List OpNumber) → WaitsForChild ks c xs on → all_done ks on ≡ true → WaitsForChild ks c xs []
 child_no_more ks c [] on h e = refl
@@ -78,12 +87,12 @@ module _ (job : Job) (s : State) (k : ℕ) where
   abbrev pub parked : Knot
   parked = record { parent = (knot_at s.waits.knots k).parent; on = []; stage = knot.Parked }
 
-  awaits_no_more : (D N : List Requirement) (earlier children : List Sibling) (w : BoardWait G) (on : List OpNumber) →
+  awaits_no_more : (D N : List Requirement) (earlier children : List Sibling) (w : BoardWait G) (on : List OpNumber) → AreOrdered s.waits.knots earlier → AreOrdered s.waits.knots children →
       AwaitsOn job.code s.waits.knots D N earlier children w on → all_done s.waits.knots on ≡ true → AwaitsOn job.code s.waits.knots D N earlier children w []
-  awaits_no_more D N earlier children first on h e = waits_no_more s.waits.knots D earlier on h e
-  awaits_no_more D N earlier children nothing on h e = refl
-  awaits_no_more D N earlier children (part x) on h e = waits_no_more s.waits.knots (filter (is_of x.root x.field) N) children on h e
-  awaits_no_more D N earlier children (child c) on h e = child_no_more s.waits.knots c children on h e
+  awaits_no_more D N earlier children first on o c h e = waits_no_more s.waits.knots D earlier on o h e
+  awaits_no_more D N earlier children nothing on o c h e = refl
+  awaits_no_more D N earlier children (part x) on o q h e = waits_no_more s.waits.knots (filter (is_of x.root x.field) N) children on q h e
+  awaits_no_more D N earlier children (child c) on o q h e = child_no_more s.waits.knots c children on h e
 
   may_idle : (who : ℕ → ℕ) (roots : List RootId) (w : BoardWait G) → MayIdle job.code s.roots who roots knot.Parked w
   may_idle who roots first = inr refl
@@ -147,13 +156,13 @@ module _ (job : Job) (s : State) (k : ℕ) where
       module _ (who : ℕ → ℕ) (ways : List (List ℕ)) (v : List ℕ) (way_is : way_of G (machine_of job) ways k ≡ Some v) where
         -- it waits as before the claim
         idle_now : (w : List ℕ) (earlier : List Sibling) (above : List RootId) (D N : List Requirement) (i : ℕ) (f : board.Frame) (ps : List (Element G)) (st : BoardStage G) (x : BoardWait G) (is : Items G) (e : v ≡ w)
-            (h : Shows job s who ways w k earlier above (op D N i f ps st is)) →
+            (h : Shows job s who ways w k earlier above (op D N i f ps st is)) → AreOrdered s.waits.knots earlier →
             IsSeen job.code s.tree s.map s.roots who (above ++ (operation_at s k).frame.own) (operation_at s k) N f ps →
             HasWait job.code s.roots who (above ++ (operation_at s k).frame.own) (operation_at s k) x →
             AwaitsOn job.code s.waits.knots D N earlier (siblings job (operation_at s k).children is) x (knot_at s.waits.knots k).on →
             all_done s.waits.knots (knot_at s.waits.knots k).on ≡ true →
             Shows job (changed s k activity.Idle parked s.turns) who ways w k earlier above (op D N i f ps (idle x) is)
-        idle_now w earlier above D N i f ps st x is e h seen waits awaits done =
+        idle_now w earlier above D N i f ps st x is e h ordered seen waits awaits done =
             let roots = above ++ (operation_at s k).frame.own in
             let children = siblings job (operation_at s k).children is in
             shows_now s k activity.Idle parked s.turns goes_on job who ways v way_is w earlier above D N i f ps st is e h (idle x)
@@ -161,9 +170,9 @@ module _ (job : Job) (s : State) (k : ℕ) where
             (may_idle who roots x, (refl, waits))
             (λ p q. refl) (
               awaits_kept job s (rows s k activity.Idle parked s.turns) (knots s k activity.Idle parked s.turns) s.turns k (changes s k activity.Idle parked s.turns goes_on) D N earlier children x []
-                  (awaits_no_more D N earlier children x (knot_at s.waits.knots k).on awaits done),
+                  (awaits_no_more D N earlier children x (knot_at s.waits.knots k).on ordered (children_ordered job s who ways w k 0 [] roots (operation_at s k).children is h.1 tt) awaits done),
               refl,
-            ) tt
+            ) (λ q. h.0.begun (ap was_begun begun)) tt
 
         module _ (makings : ℕ) (m : Map G) where
           pub own_back : (w : List ℕ) (earlier : List Sibling) (above : List RootId) (p : List ℕ) (before : Bool) (n : Node G) → v ≡ w → Shows job s who ways w k earlier above n →
@@ -173,7 +182,7 @@ module _ (job : Job) (s : State) (k : ℕ) where
           own_back w earlier above p before (op D N i f ps (filling x d l) is) e h t = record {
             left = op D N i f ps (idle x) is;
             steps = refl;
-            shows = idle_now w earlier above D N i f ps (filling x d l) x is e h h.0.seen h.0.stands.1.waits h.0.waits.0 h.0.waits.1;
+            shows = idle_now w earlier above D N i f ps (filling x d l) x is e h t.ordered h.0.seen h.0.stands.1.waits h.0.waits.0 h.0.waits.1;
             needs = refl;
             children = refl;
             made = refl;
@@ -181,7 +190,7 @@ module _ (job : Job) (s : State) (k : ℕ) where
           own_back w earlier above p before (op D N i f ps (out x d) is) e h t = record {
             left = op D N i f ps (idle x) is;
             steps = refl;
-            shows = idle_now w earlier above D N i f ps (out x d) x is e h h.0.seen h.0.stands.1.waits h.0.waits.0 h.0.waits.1;
+            shows = idle_now w earlier above D N i f ps (out x d) x is e h t.ordered h.0.seen h.0.stands.1.waits h.0.waits.0 h.0.waits.1;
             needs = refl;
             children = refl;
             made = refl;

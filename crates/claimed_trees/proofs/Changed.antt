@@ -1,5 +1,5 @@
 -- One operation changes that goes on: what it does, and how it stands in the graph.
-use Rattle.std.proofs.Common.{◌≡◌, ◌<◌, ◌++◌, ◌∷◌, ◌∙◌, ℕ, List, None, Option, Some, [], ap, cond, false, length, refl, set, subst, sym, append_assoc}
+use Rattle.std.proofs.Common.{◌≡◌, ◌<◌, ◌++◌, ◌∷◌, ◌∙◌, ℕ, List, None, Option, Some, [], ap, cond, false, length, refl, set, subst, sym, true, append_assoc}
 use Rattle.std.specs.Prelude.{map, nat_lt}
 use Rattle.std.proofs.lemmas.List.{get_or-set_other, get_or-set_same, length-set}
 use Rattle.region_tree.specs.Requirements.{Requirement}
@@ -25,12 +25,12 @@ use Rattle.board_terms.specs.Stages as table
 use Rattle.board_terms.specs.States.{State, no_operation, operation_at}
 use Rattle.board_trees.specs.Frames.{IsSeen}
 use Rattle.board_trees.specs.Names.{IsNaming}
-use Rattle.board_trees.specs.Shows.{IfRuns, Row, Shows, ShowsChildren, siblings}
-use Rattle.board_trees.specs.Stages.{ChildrenAre, Stands, WaitsWell}
-use Rattle.board_trees.specs.Waits.{Sibling}
+use Rattle.board_trees.specs.Shows.{AreListed, IfRuns, Row, Shows, ShowsChildren, siblings}
+use Rattle.board_trees.specs.Stages.{ChildrenAre, Stands, WaitsWell, was_begun}
+use Rattle.board_trees.specs.Waits.{Sibling, all_clear}
 use Rattle.board_trees.proofs.Along.{not_above}
-use Rattle.board_trees.proofs.Kept.{ChangesOne, by_number, children_kept, seen_as, with_rows}
-use Rattle.board_trees.proofs.Settled.{stage_there}
+use Rattle.board_trees.proofs.Kept.{ChangesOne, by_number, children_kept, clear_kept, listed_kept, seen_as, with_rows}
+use Rattle.board_trees.proofs.Told.{stage_there}
 
 module _ (s : State) (k : ℕ) (act : Activity) (kn : Knot) (turns : ℕ) where
   abbrev pub now : Operation
@@ -120,9 +120,10 @@ module _ (s : State) (k : ℕ) (act : Activity) (kn : Knot) (turns : ℕ) where
 
         -- with another stage
         pub shows_now : (to : BoardStage G) → IfRuns job to (IsSeen job.code s.tree s.map s.roots who roots now N f ps) → Stands job.code s.roots who roots changed kn.stage now N to →
-            (kn.stage ≡ knot.Parked → to ≡ idle first → kn.on ≡ []) → WaitsWell job.code knots D N earlier children kn.on to → ChildrenAre job.code changed (operation_at s k).children to →
+            (kn.stage ≡ knot.Parked → to ≡ idle first → kn.on ≡ []) → WaitsWell job.code knots D N earlier children kn.on to →
+            (was_begun kn.stage ≡ true → all_clear s.waits.knots D earlier ≡ true) → ChildrenAre job.code changed (operation_at s k).children to →
             Shows job changed who ways w k earlier above (op D N i f ps to is)
-        shows_now to seen stands free waits all =
+        shows_now to seen stands free waits begun all =
             let row = h.0 in
             subst (λ (o : Operation). Row job changed who ways w k earlier (above ++ o.frame.own) D N f ps to is × ShowsChildren job changed who ways w k 0 [] (above ++ o.frame.own) o.children is) (sym row_is) (
               record {
@@ -137,6 +138,10 @@ module _ (s : State) (k : ℕ) (act : Activity) (kn : Knot) (turns : ℕ) where
                 free = subst (λ (y : Knot). y.stage ≡ knot.Parked → to ≡ idle first → y.on ≡ []) (sym knot_is) free;
                 waits = subst (λ (y : Knot). WaitsWell job.code knots D N earlier (siblings job (operation_at changed k).children is) y.on to) (sym knot_is)
                     (subst (λ (o : Operation). WaitsWell job.code knots D N earlier (siblings job o.children is) kn.on to) (sym row_is) waits);
+                begun = subst (λ (y : Knot). was_begun y.stage ≡ true → all_clear knots D earlier ≡ true) (sym knot_is)
+                    (λ b. clear_kept job s rows knots turns k changes D earlier ∙ begun b);
+                listed = subst (λ (o : Operation). AreListed job changed who roots k (siblings job o.children is)) (sym row_is)
+                    (listed_kept job s rows knots turns k changes who ways roots k children row.listed);
                 children_are = subst (λ (o : Operation). ChildrenAre job.code changed o.children to) (sym row_is) all;
               },
               children_kept job s rows knots turns k changes who ways v w k 0 [] roots (operation_at s k).children is way_is

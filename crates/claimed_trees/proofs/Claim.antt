@@ -2,6 +2,7 @@
 use Rattle.std.proofs.Common.{◌≡◌, ◌<◌, ◌++◌, ◌∙◌, ◌&&◌, ℕ, suc, Bool, List, None, Some, [], ap, cond, false, inl, inr, length, refl, subst, sym, true, ⊎_elim}
 use Rattle.std.proofs.lemmas.Bool.{false≢true}
 use Rattle.std.proofs.lemmas.List.Elements.{All-append}
+use Rattle.region_tree.specs.Requirements.{Requirement}
 use Rattle.region_tree.specs.declared.tree.RootId.{RootId}
 use Rattle.logical_map.specs.Maps.{is_live}
 use Rattle.dependence_graph.specs.Entries.{Knot}
@@ -9,11 +10,12 @@ use Rattle.dependence_graph.specs.Knots.{all_done, has_failed, is_done, is_idle,
 use Rattle.dependence_graph.specs.declared.stage.Stage.{Stage as Knotted}
 use Rattle.dependence_graph.specs.declared.stage.Stage.TheVariants as knot
 use Rattle.task_code.specs.declared.job.Job.{Job}
-use Rattle.board_rules.specs.Boards.{Operation as Node, Wait as BoardWait, child, claim, closing, dropped, filling, first, idle, is_ready, nothing, op, out, over, part, step_in, unchanged, wants}
+use Rattle.board_rules.specs.Boards.{Items, Operation as Node, Wait as BoardWait, child, claim, closing, dropped, filling, first, idle, is_ready, nothing, op, out, over, part, step_in, unchanged, wants}
 use Rattle.board_rules.specs.Ground.{Ground}
 use Rattle.board_rules.specs.NumberedBoards.{way_of}
 use Rattle.board_rules.specs.Processes.{Map}
-use Rattle.board_rules.specs.Running.{Machine}
+use Rattle.board_rules.specs.Running.{Element, Machine}
+use Rattle.regent_boards.specs.Frames as board
 use Rattle.regent_boards.specs.RegentMachine.{regent_ground}
 use Rattle.code_boards.specs.Laws.{machine_of}
 use Rattle.code_boards.specs.Views.{spaces_of}
@@ -25,12 +27,14 @@ use Rattle.board_terms.specs.Stages.{is_over, stage_of}
 use Rattle.board_terms.specs.States.{State, operation_at}
 use Rattle.board_trees.specs.Names.{AreMade}
 use Rattle.board_trees.specs.Shows.{HoldsMap, IsWithinRoot, Shows, siblings}
-use Rattle.board_trees.specs.Stages.{MayIdle}
-use Rattle.board_trees.specs.Waits.{Sibling}
+use Rattle.board_trees.specs.Stages.{MayIdle, was_begun}
+use Rattle.board_trees.specs.Told.{AreOrdered}
+use Rattle.board_trees.specs.Waits.{Sibling, all_clear}
 use Rattle.board_trees.proofs.Along.{Leaves}
 use Rattle.board_trees.proofs.Kept.{all_done_kept, awaits_kept}
 use Rattle.board_trees.proofs.Open.{IsTold, WereMade, ready_told}
 use Rattle.board_trees.proofs.Settled.{wait_open}
+use Rattle.board_trees.proofs.Told.{waits_are_told}
 use Rattle.claimed_trees.proofs.Changed.{GoesOn, changes, knots, rows, seen_now, shows_now}
 use Rattle.claimed_trees.proofs.Started.{fill_starts}
 
@@ -97,7 +101,7 @@ module _ (job : Job) (s : State) (k seat : ℕ) where
           IsTold job s earlier above before n → step_in G M claim [] p before m n ≡ None
       claim_refused e w earlier above p before (op D N i f ps (idle x) is) h t =
           let free_here = free who (above ++ (operation_at s k).frame.own) (knot_at s.waits.knots k).stage (operation_at s k).activity x h.0.stands.0 h.0.stands.1.0 in
-          let same = ready_told job s who ways makings w k D N earlier (above ++ (operation_at s k).frame.own) (operation_at s k).children is x (knot_at s.waits.knots k).on before h.1 h.0.waits.0 t.clear in
+          let same = ready_told job s who ways makings w k D N earlier (above ++ (operation_at s k).frame.own) (operation_at s k).children is x (knot_at s.waits.knots k).on before h.1 h.0.waits.0 t.ordered t.clear in
           ap (λ b. cond b (unchanged G M (op D N i f ps (filling x [] (wants G M N x)) is)) None)
           (not_ready (is_idle (knot_at s.waits.knots k).stage) (all_done s.waits.knots (knot_at s.waits.knots k).on) (is_ready G M before N x is) e free_here.idle_is same)
       claim_refused e w earlier above p before (op D N i f ps (filling x d l) is) h t = refl
@@ -128,12 +132,20 @@ module _ (job : Job) (s : State) (k seat : ℕ) where
             Leaves job s who ways k goes_on.runs (rows s k filling_now begun_now (suc s.turns)) (knots s k filling_now begun_now (suc s.turns)) (suc s.turns)
             (changes s k filling_now begun_now (suc s.turns) goes_on) v way_is claim makings m [] w k earlier above n (step_in G (machine_of job makings) claim [] p before m n)
 
+        -- what it waited for before it began has ended
+        claim_clear : (w : List ℕ) (earlier : List Sibling) (above : List RootId) (D N : List Requirement) (i : ℕ) (f : board.Frame) (ps : List (Element G)) (x : BoardWait G) (is : Items G) →
+            Shows job s who ways w k earlier above (op D N i f ps (idle x) is) → AreOrdered s.waits.knots earlier → all_clear s.waits.knots D earlier ≡ true
+        claim_clear w earlier above D N i f ps first is h o = sym (waits_are_told s.waits.knots D earlier (knot_at s.waits.knots k).on o h.0.waits.0).ready ∙ done
+        claim_clear w earlier above D N i f ps nothing is h o = h.0.begun (ap was_begun h.0.stands.0)
+        claim_clear w earlier above D N i f ps (part y) is h o = h.0.begun (ap was_begun h.0.stands.0)
+        claim_clear w earlier above D N i f ps (child y) is h o = h.0.begun (ap was_begun h.0.stands.0)
+
         pub own_claim : (w : List ℕ) (earlier : List Sibling) (above : List RootId) (p : List ℕ) (before : Bool) (n : Node G) → v ≡ w → Shows job s who ways w k earlier above n →
             IsTold job s earlier above before n → OwnLeaves w earlier above p before n
         own_claim w earlier above p before (op D N i f ps (idle x) is) e h t =
             let roots = above ++ (operation_at s k).frame.own in
             let children = siblings job (operation_at s k).children is in
-            let same = ready_told job s who ways makings w k D N earlier roots (operation_at s k).children is x (knot_at s.waits.knots k).on before h.1 h.0.waits.0 t.clear in
+            let same = ready_told job s who ways makings w k D N earlier roots (operation_at s k).children is x (knot_at s.waits.knots k).on before h.1 h.0.waits.0 t.ordered t.clear in
             let were = All-append (λ (r : RootId). r.0 < length s.roots) above (operation_at s k).frame.own t.made (own_made k) in
             record {
               left = op D N i f ps (filling x [] (wants G (machine_of job makings) N x)) is;
@@ -153,7 +165,9 @@ module _ (job : Job) (s : State) (k seat : ℕ) where
                     awaits_kept job s (rows s k filling_now begun_now (suc s.turns)) (knots s k filling_now begun_now (suc s.turns)) (suc s.turns) k (changes s k filling_now begun_now (suc s.turns) goes_on) D N earlier children x
                         (knot_at s.waits.knots k).on h.0.waits.0,
                     all_done_kept job s (rows s k filling_now begun_now (suc s.turns)) (knots s k filling_now begun_now (suc s.turns)) (suc s.turns) k (changes s k filling_now begun_now (suc s.turns) goes_on) (knot_at s.waits.knots k).on ∙ done,
-                  ) tt;
+                  )
+                  (λ q. claim_clear w earlier above D N i f ps x is h t.ordered)
+                  tt;
               needs = refl;
               children = refl;
               made = refl;

@@ -196,6 +196,7 @@ module _ (job : Job) (s : State) (k : ℕ) (c : Claim) (fill : Option Filling) (
               awaits_kept job s (rows s k copied_now here s.turns) (knots s k copied_now here s.turns) s.turns k change D N earlier children x here.on h.0.waits.0,
               all_done_kept job s (rows s k copied_now here s.turns) (knots s k copied_now here s.turns) s.turns k change here.on ∙ h.0.waits.1,
             ))
+            (λ q. h.0.begun q)
             (copied_children more rest)
 
       not_filling : {A : Type 0} (a : Activity) → (operation_at s k).activity ≡ a → (a ≡ activity.Filling c fill → ⊥) → A

@@ -72,7 +72,7 @@ module _ (job : Job) where
       left : Leaves job s h.who b.ways k on.runs (rows s k act kn turns) (knots s k act kn turns) turns (changes s k act kn turns on) v way_is kind makings b.state.map
           v [] 0 [] [] b.state.tree (step_in G (machine_of job makings) kind v [] true b.state.map b.state.tree)
       left = along job s h.who b.ways k on.runs (rows s k act kn turns) (knots s k act kn turns) turns (changes s k act kn turns on) v way_is kind makings b.state.map
-          h.own_made own v [] 0 [] [] [] true b.state.tree h.shows (h.leads k v way_is) refl (record { clear = refl; made = All-nil (λ (r : RootId). r.0 < length s.roots) })
+          h.own_made own v [] 0 [] [] [] true b.state.tree h.shows (h.leads k v way_is) refl (record { ordered = tt; clear = refl; made = All-nil (λ (r : RootId). r.0 < length s.roots) })
 
       abbrev behind : Board G
       behind = record {
@@ -131,7 +131,7 @@ module _ (job : Job) where
   refuses s b h k seat kind v way_is own =
       ap (λ o. moved G (machine_of job) b (record { kind = kind; number = k; seat = seat }) v (stepped G (machine_of job (made_in G (machine_of job) b.state.tree)) b.state.map o))
       (refused job s h.who b.ways k kind (made_in G (machine_of job) b.state.tree) b.state.map h.own_made own v [] 0 [] [] [] true b.state.tree h.shows (h.leads k v way_is)
-      (record { clear = refl; made = All-nil (λ (r : RootId). r.0 < length s.roots) }))
+      (record { ordered = tt; clear = refl; made = All-nil (λ (r : RootId). r.0 < length s.roots) }))
 
   -- both are refused
   pub neither : (o : Option (Board G)) → o ≡ None → BothShow job None o

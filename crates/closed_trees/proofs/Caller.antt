@@ -28,19 +28,20 @@ use Rattle.board_terms.specs.Stages.{is_closing, is_over}
 use Rattle.board_terms.specs.Stages as table
 use Rattle.board_terms.specs.States.{State, operation_at}
 use Rattle.board_trees.specs.Frames.{IsSeen}
-use Rattle.board_trees.specs.Shows.{IfRuns, Row, ShowsChildren, needs_issued, siblings}
-use Rattle.board_trees.specs.Stages.{AwaitsOn, ChildrenAre, MayIdle, Stands, WaitsWell}
+use Rattle.board_trees.specs.Shows.{AreListed, IfRuns, Row, ShowsChildren, needs_issued, siblings}
+use Rattle.board_trees.specs.Stages.{AwaitsOn, ChildrenAre, MayIdle, Stands, WaitsWell, was_begun}
 use Rattle.board_trees.specs.Waits.{Sibling, WaitsForChild}
+use Rattle.board_trees.proofs.Ordered.{children_ordered}
 use Rattle.board_trees.proofs.Settled.{children_bad, node_told}
 use Rattle.board_trees.proofs.Told.{done_unfailed, or_off, waits_are_told}
 use Rattle.changed_trees.specs.Changes.{Change, IsAt, IsWider}
 use Rattle.changed_trees.specs.Edits.{up_among}
 use Rattle.changed_trees.specs.Open.{Asked, HasAmong, HasAt, IsOpen}
-use Rattle.changed_trees.proofs.Kept.{awaits_kept, back, if_runs, out_answers, seen_kept, shown_match, stands_kept, waits_well_kept, wider_on}
+use Rattle.changed_trees.proofs.Kept.{awaits_kept, back, clear_kept, if_runs, listed_kept, out_answers, seen_kept, shown_match, stands_kept, waits_well_kept, wider_on}
 use Rattle.closed_trees.proofs.Graph.{Ends, ended_as}
-use Rattle.closed_trees.proofs.Known.{contains_cases, contains_first, contains_later, none_in}
+use Rattle.changed_trees.proofs.Contained.{contains_cases, contains_first, contains_later, none_in}
 use Rattle.closed_trees.proofs.Places.{At, family_changes}
-use Rattle.closed_trees.proofs.Reached.{Leaving, Standing, ends_so}
+use Rattle.closed_trees.proofs.Reached.{Leaving, Standing, ends_so, entries_kept}
 use Rattle.closed_trees.proofs.Reached as reached
 use Rattle.closed_trees.proofs.Swept.{IsIt, among_swept, childless}
 use Rattle.closed_trees.proofs.Trees.{left_says, left_siblings, opened_up}
@@ -88,7 +89,7 @@ module _ (job : Job) (makings : ℕ) where
   failed_told s who ways w j D N earlier roots ks is first on n h a = absurd (n refl)
   failed_told s who ways w j D N earlier roots ks is nothing on n h a = ap (some_failed s.waits.knots) a
   failed_told s who ways w j D N earlier roots ks is (part x) on n h a =
-      (waits_are_told s.waits.knots (filter (is_of x.root x.field) N) (siblings job ks is) on a).failed
+      (waits_are_told s.waits.knots (filter (is_of x.root x.field) N) (siblings job ks is) on (children_ordered job s who ways w j 0 [] roots ks is h tt) a).failed
       ∙ children_bad job s who ways makings (filter (is_of x.root x.field) N) w j 0 [] roots ks is h
   failed_told s who ways w j D N earlier roots ks is (child c) on n h a = child_bad s who ways c on w j 0 [] roots ks is h a
 
@@ -158,15 +159,16 @@ module _ (job : Job) (makings : ℕ) where
         kids : ShowsChildren job u who ways w j 0 [] wide o.children left
         kids =
             let from : 0 + c ≡ c = omega arith in
-            among_swept job makings s who ways root stand k v it closing_k over_k j w c v_is at_j parent_is roots wide wide_is under c [] 0 [] o.children is from (λ Q. refl) h
+            among_swept job makings s who ways root stand k v it closing_k over_k j w c v_is at_j parent_is roots wide wide_is under c [] 0 [] o.children is from tt (λ Q. refl) h
 
         there : Contains o.children (number k)
         there = among_there Opens (λ z i earlier above n b. b.0) c 0 [] roots o.children is h
 
         opened : (now : BoardStage G) → tree.is_over G now ≡ false → IfRuns job now (IsSeen job.code u.tree u.map u.roots who wide o N f ps) → Stands job.code u.roots who wide u (knot_at us j).stage o N now →
             ((knot_at us j).stage ≡ knot.Parked → now ≡ idle first → (knot_at us j).on ≡ []) → WaitsWell job.code us D N earlier (siblings job o.children left) (knot_at us j).on now →
+            (was_begun (knot_at us j).stage ≡ true → was_begun (knot_at ks j).stage ≡ true) →
             IsOpen job u who ways w j earlier more (op D N i f ps now left)
-        opened now going seen stands free waits = (
+        opened now going seen stands free waits was = (
           record {
             within = row.within;
             knot = change.knots j row.knot;
@@ -178,6 +180,10 @@ module _ (job : Job) (makings : ℕ) where
             stands = stands;
             free = free;
             waits = waits;
+            begun = λ b. clear_kept job s u who who ways ways Here change D earlier (row.begun (was b));
+            listed = subst (AreListed job u who wide j) (sym (left_siblings job M c o.children is))
+                (listed_kept job s u who who ways ways Here change roots wide wide_is under j (λ x q f e. entries_kept job s who ways root stand k v it (how_closed s k) x f e)
+                (siblings job o.children is) row.listed);
           },
           kids,
         )
@@ -198,11 +204,12 @@ module _ (job : Job) (makings : ℕ) where
             (subst (λ (x : Knot). WaitsWell job.code us D N earlier (siblings job o.children left) x.on st) (sym same)
             (waits_well_kept job s u who who ways ways Here change roots (knot_at ks j).stage o D N earlier (siblings job o.children left) (knot_at ks j).on st
             (λ e q. ap (λ (x : Knot). some_failed us x.on) (sym same) ∙ facts.reached j (ap (λ (x : Knot). is_idle x.stage) same ∙ e)) row.stands waited))
+            (λ b. ap (λ (x : Knot). was_begun x.stage) (sym same) ∙ b)
 
         -- it is stopped
-        stops : o.activity ≡ Idle → (knot_at us j).stage ≡ knot.Stopped →
+        stops : o.activity ≡ Idle → (knot_at ks j).stage ≡ knot.Parked → (knot_at us j).stage ≡ knot.Stopped →
             IsOpen job u who ways w j earlier more (op D N i f ps (closing stopped) left)
-        stops a e = opened (closing stopped) refl tt (inr (e, a)) (λ p q. absurd (true≢false (sym (ap runs q)))) tt
+        stops a p e = opened (closing stopped) refl tt (inr (e, a)) (λ p q. absurd (true≢false (sym (ap runs q)))) tt (λ b. ap was_begun p)
           where
             runs : BoardStage G → Bool
             runs (idle x) = true
@@ -249,7 +256,7 @@ module _ (job : Job) (makings : ℕ) where
           (goes_on (idle x) row h refl same))
           (λ g. ⊎_elim
           (λ b. let q : knot.Waiting ≡ knot.Parked = sym b.0 ∙ parked in absurd cc)
-          (λ b. subst by (sym g.vain ∙ ap (some_failed us) g.on ∙ told) (stops (idle x) row h row.stands.1.0 b.1)) g.stages)
+          (λ b. subst by (sym g.vain ∙ ap (some_failed us) g.on ∙ told) (stops (idle x) row h row.stands.1.0 b.0 b.1)) g.stages)
           (facts.others j below_k)
 
       by_stage : (st : BoardStage G) → Row job s who ways w j earlier roots D N f ps st is → HasAmong job s who ways Opens c [] w j 0 [] roots o.children is →

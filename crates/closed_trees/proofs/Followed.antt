@@ -69,6 +69,8 @@ module _ (job : Job) (makings : ℕ) where
               stands = r.stands;
               free = r.free;
               waits = r.waits;
+              begun = r.begun;
+              listed = r.listed;
               children_are = open_children job s s.roots o.who (above ++ (operation_at s i).frame.own) (knot_at s.waits.knots i).stage (operation_at s i) N (operation_at s i).children st r.stands r.going
                   (ap (may_close s) h.0 ∙ stays);
             },

@@ -16,7 +16,7 @@ use Rattle.dependence_graph.specs.declared.stage.Stage.TheVariants.{Waiting, Par
 use Rattle.dependence_graph.proofs.Following.{all_give_up, done_other, done_same, stage_in, stage_other, stage_same}
 use Rattle.dependence_graph.proofs.Vain.{failures_reach_all}
 use Rattle.board_trees.specs.Waits.{has_ended}
-use Rattle.closed_trees.proofs.Known.{contains_cases, contains_first, contains_later, none_in}
+use Rattle.changed_trees.proofs.Contained.{contains_cases, contains_first, contains_later, none_in}
 
 abbrev pub ended_as : How → Stage
 ended_as how.Done = Done
@@ -150,14 +150,14 @@ module _ (p q : ℕ → Bool) where
       chosen false false e r = r
 
 module _ (g : Waits) (k : ℕ) where
-  pub entries_stay : (h : How) (x : ℕ) → (h ≡ how.Done → is_done (stage_at (ended g k h).knots k) ≡ true) → has_ended (ended g k h).knots x ≡ false → (e : Listed) → e.op ≡ number x →
+  pub entries_stay : (h : How) → (h ≡ how.Done → is_done (stage_at (ended g k h).knots k) ≡ true) → (e : Listed) → has_ended (ended g k h).knots e.op.0 ≡ false →
       Contains g.listing e → Contains (ended g k h).listing e
-  entries_stay how.Failed x own f e q c = c
-  entries_stay how.Done x own f e q c = contains_filter (λ l. not (is_op k l)) g.listing e (chosen (e.op.0 == k) refl) c
+  entries_stay how.Failed own e f c = c
+  entries_stay how.Done own e f c = contains_filter (λ l. not (is_op k l)) g.listing e (chosen (e.op.0 == k) refl) c
     where
       chosen : (b : Bool) → (e.op.0 == k) ≡ b → not b ≡ true
       chosen false w = refl
-      chosen true w = absurd (false≢true (sym f ∙ ap (λ n. is_done (stage_at (ended g k how.Done).knots n)) (sym (ap (λ (o : OpNumber). o.0) q) ∙ eqb-true e.op.0 k w) ∙ own refl))
+      chosen true w = absurd (false≢true (sym f ∙ ap (λ n. is_done (stage_at (ended g k how.Done).knots n)) (eqb-true e.op.0 k w) ∙ own refl))
 
   pub listed_stays : (h : How) (js : List ℕ) → ((x : ℕ) → ¬ (x ≡ k) → has_ended (ended g k h).knots x ≡ has_ended g.knots x) → has_ended g.knots k ≡ false →
       has_ended (ended g k h).knots k ≡ is_done (Some (ended_as h)) →

@@ -27,6 +27,7 @@ use Rattle.board_trees.specs.Waits.{Sibling, WaitsFor, WaitsForChild}
 use Rattle.board_trees.proofs.Along.{some_same}
 use Rattle.changed_trees.specs.Changes.{IsAt}
 use Rattle.changed_trees.specs.Open.{Asked, HasAmong, HasAt, IsOpen}
+use Rattle.changed_trees.proofs.Contained.{contains_cases, contains_first, contains_later, none_in}
 
 -- ---- among siblings
 
@@ -39,19 +40,6 @@ in_more [] x y (inl e) = inr e
 in_more [] x y (inr e) = absurd e
 in_more (z ∷ xs) x y (inl e) = inl (inl e)
 in_more (z ∷ xs) x y (inr e) = ⊎_elim (λ l. inl (inr l)) (λ r. inr r) (in_more xs x y e)
-
-pub none_in : {X : Type 0} (y : X) → ¬ Contains [] y
-none_in y c = omega (arith, c.1)
-
-pub contains_cases : {X : Type 0} (x : X) (xs : List X) (y : X) → Contains (x ∷ xs) y → (x ≡ y) ⊎ Contains xs y
-contains_cases x xs y (zero, l, e) = inl e
-contains_cases x xs y (suc i, l, e) = inr (i, omega (arith, l), e)
-
-pub contains_first : {X : Type 0} (x : X) (xs : List X) → Contains (x ∷ xs) x
-contains_first x xs = (0, omega arith, refl)
-
-pub contains_later : {X : Type 0} (x : X) (xs : List X) (y : X) → Contains xs y → Contains (x ∷ xs) y
-contains_later x xs y (i, l, e) = (suc i, omega (arith, l), e)
 
 below_later : (k : OpNumber) (ks : List OpNumber) (e : ℕ) → AreRising (k ∷ ks) → Contains ks (number e) → k.0 < e
 below_later k ks e r c = rising_head k.0 (map (λ (o : OpNumber). o.0) ks) r e (has_number ks c)

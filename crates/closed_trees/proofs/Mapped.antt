@@ -34,7 +34,7 @@ use Rattle.board_terms.specs.Stages as table
 use Rattle.board_terms.specs.States.{State, no_extent, operation_at}
 use Rattle.board_trees.specs.Frames.{IsSeen}
 use Rattle.board_trees.specs.Names.{AreMade, pointed}
-use Rattle.board_trees.specs.Shows.{HoldsMap, IfRuns, IsChild, Row, Shows, ShowsChildren, needs_issued}
+use Rattle.board_trees.specs.Shows.{AreListed, HoldsMap, IfRuns, IsChild, Row, Shows, ShowsChildren, needs_issued, siblings}
 use Rattle.board_trees.specs.Stages.{ChildrenAre, Stands}
 use Rattle.board_trees.specs.Waits.{Sibling}
 use Rattle.board_trees.proofs.Along.{not_above, places_same}
@@ -105,6 +105,13 @@ module _ (job : Job) where
     children_still ks (over e) h = h
     children_still ks dropped h = h
 
+    listed_still : (roots : List RootId) (j : ℕ) (xs : List Sibling) → AreListed job s who roots j xs → AreListed job u who roots j xs
+    listed_still roots j [] h = tt
+    listed_still roots j (x ∷ xs) h = (
+      λ e. let l = h.0 e in record { entry = l.entry; there = l.there; op_is = l.op_is; context = l.context; issued = l.issued; placed = l.placed; upward = l.upward; alike = l.alike; own = l.own; others = l.others },
+      listed_still roots j xs h.1,
+    )
+
     row_still : (way : List ℕ) (j : ℕ) (earlier : List Sibling) (roots : List RootId) (D N : List Requirement) (f : board.Frame) (ps : List (Element G)) (st : BoardStage G) (is : Items G) →
         IfRuns job st (IsSeen job.code u.tree u.map u.roots who roots (operation_at u j) N f ps) → Row job s who ways way j earlier roots D N f ps st is →
         Row job u who ways way j earlier roots D N f ps st is
@@ -118,15 +125,13 @@ module _ (job : Job) where
       stands = stands_still roots (knot_at s.waits.knots j).stage (operation_at s j) N st h.stands;
       free = h.free;
       waits = h.waits;
+      begun = h.begun;
+      listed = listed_still roots j (siblings job (operation_at s j).children is) h.listed;
       children_are = children_still (operation_at s j).children st h.children_are;
     }
 
-    child_still : (j k : ℕ) (roots : List RootId) (D : List Requirement) → IsChild job s who ways j k roots D → IsChild job u who ways j k roots D
-    child_still j k roots D h = record {
-      parent = h.parent;
-      later = h.later;
-      listed = λ e. let l = h.listed e in record { entry = l.entry; there = l.there; op_is = l.op_is; context = l.context; needs = l.needs };
-    }
+    child_still : (j k : ℕ) → IsChild job s who ways j k → IsChild job u who ways j k
+    child_still j k h = record { parent = h.parent; later = h.later }
 
     -- ---- below what is over
 
@@ -161,7 +166,7 @@ module _ (job : Job) where
       all_still w j c earlier roots [] (child_op n is) h e = absurd h
       all_still w j c earlier roots (k ∷ ks) (child_op n is) h e =
           let both = and_parts (is_over (table.stage_at s k.0)) (all_over s ks) e in (
-            child_still j k.0 roots (needs_issued job n) h.0,
+            child_still j k.0 h.0,
             over_still (w ++ c ∷ []) k.0 earlier roots n h.1 (sym (node_told job s who ways (w ++ c ∷ []) k.0 earlier roots n h.1).is_over ∙ both.0),
             all_still w j (suc c) (earlier ++ record { op = k.0; needs = needs_issued job n } ∷ []) roots ks is h.2 both.1,
           )
@@ -181,6 +186,8 @@ module _ (job : Job) where
         stands = h.0.stands;
         free = h.0.free;
         waits = tt;
+        begun = h.0.begun;
+        listed = listed_still (above ++ (operation_at s k).frame.own) k (siblings job (operation_at s k).children is) h.0.listed;
       },
       all_still w k 0 [] (above ++ (operation_at s k).frame.own) (operation_at s k).children is h.1 all,
     )
@@ -245,7 +252,7 @@ module _ (job : Job) where
         children_beside w j c earlier roots ks (said t is) free below apart h = children_beside w j c earlier roots ks is free below apart h
         children_beside w j c earlier roots [] (child_op n is) free below apart h = absurd h
         children_beside w j c earlier roots (x ∷ xs) (child_op n is) free below apart h = (
-          child_still j x.0 roots (needs_issued job n) h.0,
+          child_still j x.0 h.0,
           beside (w ++ c ∷ []) x.0 earlier roots n free below (apart c (omega arith)) h.1,
           children_beside w j (suc c) (earlier ++ record { op = x.0; needs = needs_issued job n } ∷ []) roots xs is free below (λ d b. apart d (omega (arith, b))) h.2,
         )
@@ -275,7 +282,7 @@ module _ (job : Job) where
           among_still zero way w j d earlier roots (x ∷ xs) (child_op n is) e free below h =
               let here : d + 0 ≡ d = omega arith in
               let at : v ≡ (w ++ d ∷ []) ++ way = e ∙ ap (λ z. (w ++ z ∷ []) ++ way) here in (
-                child_still j x.0 roots (needs_issued job n) h.0,
+                child_still j x.0 h.0,
                 has_still way (w ++ d ∷ []) x.0 earlier roots n at free below h.1,
                 children_beside w j (suc d) (earlier ++ record { op = x.0; needs = needs_issued job n } ∷ []) roots xs is free below
                     (λ y b z q. absurd (omega (arith, b, places_same w d y way z (sym at ∙ q)))) h.2,
@@ -283,7 +290,7 @@ module _ (job : Job) where
           among_still (suc c) way w j d earlier roots (x ∷ xs) (child_op n is) e free below h =
               let there : d + suc c ≡ suc d + c = omega arith in
               let at : v ≡ (w ++ (suc d + c) ∷ []) ++ way = e ∙ ap (λ z. (w ++ z ∷ []) ++ way) there in (
-                child_still j x.0 roots (needs_issued job n) h.0,
+                child_still j x.0 h.0,
                 beside (w ++ d ∷ []) x.0 earlier roots n free below (λ z q. let y = places_same w (suc d + c) d way z (sym at ∙ q) in absurd (omega (arith, y))) h.1,
                 among_still c way w j (suc d) (earlier ++ record { op = x.0; needs = needs_issued job n } ∷ []) roots xs is at free below h.2,
               )

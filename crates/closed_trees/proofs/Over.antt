@@ -1,5 +1,5 @@
 -- An operation whose own work has ended, and all of whose children are over, is over: on the table and in the tree.
-use Rattle.std.proofs.Common.{◌≡◌, ◌<◌, ◌⊎◌, ◌++◌, ◌∷◌, ◌∙◌, ◌&&◌, ℕ, suc, Bool, List, Some, [], ap, cond, false, inl, inr, length, refl, subst, sym, true}
+use Rattle.std.proofs.Common.{◌≡◌, ◌<◌, ◌⊎◌, ◌++◌, ◌∷◌, ◌∙◌, ◌&&◌, ℕ, suc, Bool, List, Some, [], ap, cond, false, inl, inr, length, refl, subst, sym, true, ⊎_elim}
 use Rattle.std.specs.Prelude.{All}
 use Rattle.std.proofs.lemmas.Bool.{false≢true, true≢false}
 use Rattle.std.proofs.lemmas.List.Elements.{All-append}
@@ -33,16 +33,17 @@ use Rattle.board_terms.specs.Closings.{all_good, all_over, came_to_end, how_clos
 use Rattle.board_terms.specs.Stages.{by_activity, by_wait, is_closing, is_good, is_over, stage_of}
 use Rattle.board_terms.specs.Stages as table
 use Rattle.board_terms.specs.States.{State, operation_at}
-use Rattle.board_trees.specs.Shows.{Shows, ShowsChildren, needs_issued}
-use Rattle.board_trees.specs.Stages.{ChildrenAre, IsEnding, MayFail, Stands, WasStopped}
+use Rattle.board_trees.specs.Shows.{Shows, ShowsChildren, needs_issued, siblings}
+use Rattle.board_trees.specs.Stages.{ChildrenAre, IsEnding, MayFail, Stands, WasStopped, was_begun}
 use Rattle.board_trees.specs.Waits.{Sibling}
-use Rattle.board_trees.proofs.Settled.{children_over, node_told, settled, stage_there}
+use Rattle.board_trees.proofs.Settled.{children_over, node_told, settled}
+use Rattle.board_trees.proofs.Told.{stage_there}
 use Rattle.changed_trees.specs.Changes.{Change, IsWider}
 use Rattle.changed_trees.specs.Open.{IsOpen}
 use Rattle.changed_trees.proofs.Below.{children_kept}
-use Rattle.changed_trees.proofs.Kept.{back, wider_on}
+use Rattle.changed_trees.proofs.Kept.{back, clear_kept, listed_kept, wider_on}
 use Rattle.closed_trees.proofs.Graph.{ended_as}
-use Rattle.closed_trees.proofs.Reached.{Leaving, Standing, all_stay, ends_so}
+use Rattle.closed_trees.proofs.Reached.{Leaving, Standing, all_stay, ends_so, entries_kept}
 
 good_done : (kn : Knotted) (w : Wait) (a : Activity) → is_good (stage_of kn w a) ≡ is_done (Some kn)
 good_done knot.Waiting w a = refl
@@ -202,6 +203,9 @@ module _ (job : Job) where
                   (over_so s s.roots who roots (knot_at s.waits.knots k).stage (operation_at s k) N M u e (all_good s (operation_at s k).children) h.0.stands));
               free = λ p q. absurd (unlike q);
               waits = tt;
+              begun = λ b. clear_kept job s u who who ways ways At change D earlier (h.0.begun (⊎_elim (λ q. ap was_begun q) (λ q. ap was_begun q) it.busy));
+              listed = listed_kept job s u who who ways ways At change roots (more ++ own) wide under k (λ x q f c. entries_kept job s who ways root stand k v it to x f c)
+                  (siblings job (operation_at s k).children is) h.0.listed;
               children_are = all_stay job s who ways root stand k v it to (operation_at s k).children all;
             },
             children_kept job s u who who ways ways At change stand.makings stand.made stand.own_made v k 0 [] roots (more ++ own) (operation_at s k).children is wide under (λ d l z. apart d z) h.1,

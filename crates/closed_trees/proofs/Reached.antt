@@ -3,7 +3,7 @@ use Rattle.std.proofs.Common.{◌≡◌, ◌<◌, ◌⊎◌, ◌∷◌, ◌∙�
 use Rattle.std.specs.Prelude.{All, nat_lt}
 use Rattle.std.specs.List.{Contains}
 use Rattle.std.proofs.lemmas.Bool.{and_from, and_parts, cases_eq, false≢true, or_cases, or_parts, true≢false}
-use Rattle.region_finder.specs.Listings.{AreRising}
+use Rattle.region_finder.specs.Listings.{AreRising, Listed}
 use Rattle.region_tree.specs.declared.tree.OpNumber.{OpNumber}
 use Rattle.region_tree.specs.declared.tree.RootId.{RootId}
 use Rattle.dependence_graph.specs.Entries.{Knot}
@@ -33,7 +33,8 @@ use Rattle.board_trees.proofs.Settled.{wait_open}
 use Rattle.changed_trees.specs.Changes.{Change, IsAt}
 use Rattle.changed_trees.proofs.Listed.{way_found}
 use Rattle.closed_trees.proofs.Graph.{Ends, ended_as, ends, entries_stay}
-use Rattle.closed_trees.proofs.Known.{Called, IsIn, Known, View, contains_first, contains_later, known_at}
+use Rattle.changed_trees.proofs.Contained.{contains_first, contains_later}
+use Rattle.closed_trees.proofs.Known.{Called, IsIn, Known, View, known_at}
 
 -- some of these failed meanwhile
 record NewFailure (ks us : List Knot) (on : List OpNumber) : Type 0 where
@@ -176,6 +177,10 @@ module _ (job : Job) where
           (λ r. let more = siblings_so (suc new.op) new.op (omega arith) r.0 r.1 r.2 in (sym more.0 ∙ b.0, more.1))
           (new_is new.op new.now new.before)
 
+      -- all but this one is listed as before
+      pub entries_kept : (e : Listed) → has_ended us e.op.0 ≡ false → Contains s.waits.listing e → Contains (ended s.waits k to).listing e
+      entries_kept e f c = entries_stay s.waits k to (λ h. ended_now ∙ ap (λ x. is_done (Some (ended_as x))) h) e f c
+
       -- ---- what others see of it
 
       abbrev pub u : State
@@ -247,5 +252,5 @@ module _ (job : Job) where
           names = λ x l. refl;
           there = λ r e. e;
           fields = λ r field l. l;
-          entries = λ x e l q c. entries_stay s.waits k to x (λ h. ended_now ∙ ap (λ x. is_done (Some (ended_as x))) h) e l q c;
+          entries = λ x w a n l q e c. entries_kept l e c;
         }

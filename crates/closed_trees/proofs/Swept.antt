@@ -28,22 +28,23 @@ use Rattle.board_terms.specs.Closings.{all_over, how_closed}
 use Rattle.board_terms.specs.Stages.{is_closing}
 use Rattle.board_terms.specs.Stages as table
 use Rattle.board_terms.specs.States.{State, operation_at}
-use Rattle.board_trees.specs.Shows.{IsChild, Shows, ShowsChildren, needs_issued}
-use Rattle.board_trees.specs.Stages.{IsWait}
-use Rattle.board_trees.specs.Told.{some_bad}
+use Rattle.board_trees.specs.Shows.{IsChild, Shows, ShowsChildren, needs_issued, siblings}
+use Rattle.board_trees.specs.Stages.{IsWait, was_begun}
+use Rattle.board_trees.specs.Told.{AreOrdered, some_bad}
 use Rattle.board_trees.specs.Waits.{Sibling}
 use Rattle.board_trees.proofs.Along.{not_above, places_same}
+use Rattle.board_trees.proofs.Ordered.{node_ordered}
 use Rattle.board_trees.proofs.Settled.{node_told, unmet, worse_tells}
 use Rattle.board_trees.proofs.Told.{waits_are_told}
 use Rattle.changed_trees.specs.Changes.{Change, IsAt, IsWider}
 use Rattle.changed_trees.specs.Open.{Asked, HasAmong, IsOpen}
 use Rattle.changed_trees.specs.Edits.{up_among}
 use Rattle.changed_trees.proofs.Below.{children_kept, is_child_kept, node_within, shows_kept}
-use Rattle.changed_trees.proofs.Kept.{awaits_kept, back, has_wait_kept, wider_on}
+use Rattle.changed_trees.proofs.Kept.{awaits_kept, back, has_wait_kept, listed_kept, wider_on}
 use Rattle.closed_trees.proofs.Graph.{Ends, ended_as}
 use Rattle.closed_trees.proofs.Over.{over_shows}
 use Rattle.closed_trees.proofs.Places.{At, deep_apart, family_changes, here_apart}
-use Rattle.closed_trees.proofs.Reached.{Leaving, Standing, ends_so, one_way}
+use Rattle.closed_trees.proofs.Reached.{Leaving, Standing, ends_so, entries_kept, one_way}
 use Rattle.closed_trees.proofs.Reached as reached
 
 -- the operation may be over
@@ -118,16 +119,16 @@ module _ (job : Job) (makings : ℕ) where
     IsGivenUp bad n = tree.is_waiting G (tree.stage_of G n) && tree.meets_any G M bad (tree.needs_of G n)
 
     -- it goes on to show
-    goes_on : (bad : List (List Requirement)) (way : List ℕ) (x : ℕ) (earlier : List Sibling) (above : List RootId) (n : Node G) → Shows job u who ways way x earlier above n → Tells us earlier bad →
+    goes_on : (bad : List (List Requirement)) (way : List ℕ) (x : ℕ) (earlier : List Sibling) (above : List RootId) (n : Node G) → Shows job u who ways way x earlier above n → AreOrdered us earlier → Tells us earlier bad →
         IsGivenUp bad n ≡ false
-    goes_on bad way x earlier above n h tells = off (tree.is_waiting G (tree.stage_of G n)) (tree.meets_any G M bad (tree.needs_of G n)) (unmet job u who ways makings bad way x earlier above n h tells)
+    goes_on bad way x earlier above n h o tells = off (tree.is_waiting G (tree.stage_of G n)) (tree.meets_any G M bad (tree.needs_of G n)) (unmet job u who ways makings bad way x earlier above n h o tells)
 
     -- or it gave up before it began
     record IsDropped (bad : List (List Requirement)) (way : List ℕ) (x : ℕ) (earlier : List Sibling) (above : List RootId) (n : Node G) : Type 0 where
       shows : Shows job u who ways way x earlier above (tree.as_dropped G M n)
       given_up : IsGivenUp bad n ≡ true
 
-    module _ (roots more : List RootId) (wider : IsWider u roots more) (below : Below roots) (earlier : List Sibling) (bad : List (List Requirement)) (tells : Tells us earlier bad) (d x : ℕ) (n : ¬ (c ≡ d)) where
+    module _ (roots more : List RootId) (wider : IsWider u roots more) (below : Below roots) (earlier : List Sibling) (ordered : AreOrdered us earlier) (bad : List (List Requirement)) (tells : Tells us earlier bad) (d x : ℕ) (n : ¬ (c ≡ d)) where
       drop_first : (D N : List Requirement) (i : ℕ) (f : board.Frame) (ps : List (Element G)) (is : Items G) → Shows job s who ways (w ++ d ∷ []) x earlier roots (op D N i f ps (idle first) is) →
           GaveUp ks us x → (knot_at us x).stage ≡ knot.Dropped → IsDropped bad (w ++ d ∷ []) x earlier more (op D N i f ps (idle first) is)
       drop_first D N i f ps is h g e =
@@ -148,13 +149,16 @@ module _ (job : Job) (makings : ℕ) where
                 stands = (e, (h.0.stands.1.0, waits));
                 free = λ p q. absurd (true≢false (ap (tree.is_over G) q));
                 waits = tt;
+                begun = λ b. absurd (true≢false (sym b ∙ ap was_begun e));
+                listed = listed_kept job s u who who ways ways Here change (roots ++ own) (more ++ own) wide under x
+                    (λ y q f c. entries_kept job s who ways root stand k v it (how_closed s k) y f c) (siblings job (operation_at s x).children is) h.0.listed;
                 children_are = childless job s.roots who (roots ++ own) (operation_at s x).frame.needs.items (operation_at s x).parts (operation_at s x).children (operation_at s x).wait h.0.stands.1.1;
               },
               children_kept job s u who who ways ways Here change stand.makings stand.made stand.own_made (w ++ d ∷ []) x 0 [] (roots ++ own) (more ++ own) (operation_at s x).children is wide under
                   (λ y l z. deep d y z) h.1,
             );
             given_up = tells D
-                ∙ sym (waits_are_told us D earlier (knot_at ks x).on (awaits_kept job s u who who ways ways Here change D N earlier [] first (knot_at ks x).on h.0.waits.0)).failed
+                ∙ sym (waits_are_told us D earlier (knot_at ks x).on ordered (awaits_kept job s u who who ways ways Here change D N earlier [] first (knot_at ks x).on h.0.waits.0)).failed
                 ∙ ap (some_failed us) on ∙ g.vain;
           }
 
@@ -179,7 +183,7 @@ module _ (job : Job) (makings : ℕ) where
           (λ same.
           let shown = shows_kept job s u who who ways ways Here change stand.makings stand.made stand.own_made (w ++ d ∷ []) x earlier roots more (op D N i f ps st is) wider below
           (here_apart job s who ways root stand k v it (how_closed s k) j w c v_is at_j parent_is d x n h.0.way_is same) h in
-          inl (shown, goes_on bad (w ++ d ∷ []) x earlier more (op D N i f ps st is) shown tells))
+          inl (shown, goes_on bad (w ++ d ∷ []) x earlier more (op D N i f ps st is) shown ordered tells))
           (λ g. ⊎_elim
           (λ b. inr (drops D N i f ps st is h g b.0 b.1))
           (λ b. absurd (unparked g b.0)) g.stages)
@@ -197,46 +201,46 @@ module _ (job : Job) (makings : ℕ) where
       abbrev Left : ℕ → List Sibling → List OpNumber → Items G → Type 0
       Left d earlier xs is = ShowsChildren job u who ways w j d earlier more xs is
 
-      child_kept : (x : ℕ) (D : List Requirement) → x < length s.operations → IsChild job s who ways j x roots D → IsChild job u who ways j x more D
-      child_kept x D l h = is_child_kept job s u who who ways ways Here change stand.makings stand.made stand.own_made j x roots more D wider below l h
+      child_kept : (x : ℕ) → x < length s.operations → IsChild job s who ways j x → IsChild job u who ways j x
+      child_kept x l h = is_child_kept job s u who who ways ways Here change stand.makings stand.made stand.own_made j x l h
 
       -- one that isn't the one that is over, and those behind it
-      one_swept : (bad : List (List Requirement)) (d : ℕ) (earlier : List Sibling) (x : OpNumber) (xs : List OpNumber) (n : Node G) (is : Items G) → ¬ (c ≡ d) → Tells us earlier bad →
-          IsChild job s who ways j x.0 roots (needs_issued job n) → Shows job s who ways (w ++ d ∷ []) x.0 earlier roots n →
-          ((more : List (List Requirement)) → Tells us (earlier ++ record { op = x.0; needs = needs_issued job n } ∷ []) more →
+      one_swept : (bad : List (List Requirement)) (d : ℕ) (earlier : List Sibling) (x : OpNumber) (xs : List OpNumber) (n : Node G) (is : Items G) → ¬ (c ≡ d) → AreOrdered us earlier → Tells us earlier bad →
+          IsChild job s who ways j x.0 → Shows job s who ways (w ++ d ∷ []) x.0 earlier roots n →
+          ((more : List (List Requirement)) → AreOrdered us (earlier ++ record { op = x.0; needs = needs_issued job n } ∷ []) → Tells us (earlier ++ record { op = x.0; needs = needs_issued job n } ∷ []) more →
           Left (suc d) (earlier ++ record { op = x.0; needs = needs_issued job n } ∷ []) xs (tree.sweep G M more is)) →
           Left d earlier (x ∷ xs) (tree.sweep G M bad (child_op n is))
-      one_swept bad d earlier x xs (op D N i f ps st js) is n tells called h rest = ⊎_elim
+      one_swept bad d earlier x xs (op D N i f ps st js) is n ordered tells called h rest = ⊎_elim
           (λ a.
           let told = node_told job u who ways (w ++ d ∷ []) x.0 earlier more (op D N i f ps st js) a.0 in
           subst (λ b. Left d earlier (x ∷ xs) (cond b (child_op (op D N i f ps dropped js) (tree.sweep G M (D ∷ bad) is)) (child_op (op D N i f ps st js) (tree.sweep G M (cond (tree.has_failed G st) (D ∷ bad) bad) is))))
           (sym a.1)
-          (kept, a.0, rest (cond (tree.has_failed G st) (D ∷ bad) bad) (λ Q. worse_tells job u who ways makings bad earlier x.0 (op D N i f ps st js) told Q (tells Q))))
+          (kept, a.0, rest (cond (tree.has_failed G st) (D ∷ bad) bad) (node_ordered job u who ways (w ++ d ∷ []) x.0 earlier more (op D N i f ps st js) a.0 ordered) (λ Q. worse_tells job u who ways makings bad earlier x.0 (op D N i f ps st js) told Q (tells Q))))
           (λ a.
           let told = node_told job u who ways (w ++ d ∷ []) x.0 earlier more (op D N i f ps dropped js) a.shows in
           subst (λ b. Left d earlier (x ∷ xs) (cond b (child_op (op D N i f ps dropped js) (tree.sweep G M (D ∷ bad) is)) (child_op (op D N i f ps st js) (tree.sweep G M (cond (tree.has_failed G st) (D ∷ bad) bad) is))))
           (sym a.given_up)
-          (kept, a.shows, rest (D ∷ bad) (λ Q. worse_tells job u who ways makings bad earlier x.0 (op D N i f ps dropped js) told Q (tells Q))))
-          (child_left roots more wider below earlier bad tells d x.0 n (op D N i f ps st js) h)
+          (kept, a.shows, rest (D ∷ bad) (node_ordered job u who ways (w ++ d ∷ []) x.0 earlier more (op D N i f ps dropped js) a.shows ordered) (λ Q. worse_tells job u who ways makings bad earlier x.0 (op D N i f ps dropped js) told Q (tells Q))))
+          (child_left roots more wider below earlier ordered bad tells d x.0 n (op D N i f ps st js) h)
         where
-          kept : IsChild job u who ways j x.0 more D
-          kept = child_kept x.0 D (node_within job s u who who ways ways Here change stand.makings stand.made stand.own_made (w ++ d ∷ []) x.0 earlier roots (op D N i f ps st js) h) called
+          kept : IsChild job u who ways j x.0
+          kept = child_kept x.0 (node_within job s u who who ways ways Here change stand.makings stand.made stand.own_made (w ++ d ∷ []) x.0 earlier roots (op D N i f ps st js) h) called
 
       -- behind it
-      rest_swept : (bad : List (List Requirement)) (d : ℕ) (earlier : List Sibling) (xs : List OpNumber) (is : Items G) → c < d → Tells us earlier bad →
+      rest_swept : (bad : List (List Requirement)) (d : ℕ) (earlier : List Sibling) (xs : List OpNumber) (is : Items G) → c < d → AreOrdered us earlier → Tells us earlier bad →
           ShowsChildren job s who ways w j d earlier roots xs is → Left d earlier xs (tree.sweep G M bad is)
-      rest_swept bad d earlier xs no_item l tells h = h
-      rest_swept bad d earlier xs (said t is) l tells h = rest_swept bad d earlier xs is l tells h
-      rest_swept bad d earlier [] (child_op n is) l tells h = absurd h
-      rest_swept bad d earlier (x ∷ xs) (child_op n is) l tells h =
-          one_swept bad d earlier x xs n is (λ e. absurd (omega (arith, l, e))) tells h.0 h.1
-          (λ worse t. rest_swept worse (suc d) (earlier ++ record { op = x.0; needs = needs_issued job n } ∷ []) xs is (omega (arith, l)) t h.2)
+      rest_swept bad d earlier xs no_item l o tells h = h
+      rest_swept bad d earlier xs (said t is) l o tells h = rest_swept bad d earlier xs is l o tells h
+      rest_swept bad d earlier [] (child_op n is) l o tells h = absurd h
+      rest_swept bad d earlier (x ∷ xs) (child_op n is) l o tells h =
+          one_swept bad d earlier x xs n is (λ e. absurd (omega (arith, l, e))) o tells h.0 h.1
+          (λ worse o t. rest_swept worse (suc d) (earlier ++ record { op = x.0; needs = needs_issued job n } ∷ []) xs is (omega (arith, l)) o t h.2)
 
       -- it itself
-      it_swept : (bad : List (List Requirement)) (d : ℕ) (earlier : List Sibling) (x : OpNumber) (xs : List OpNumber) (n : Node G) (is : Items G) → v ≡ w ++ d ∷ [] → c < suc d → Tells us earlier bad →
-          IsChild job s who ways j x.0 roots (needs_issued job n) → IsIt job s who ways k (w ++ d ∷ []) x.0 earlier roots n →
+      it_swept : (bad : List (List Requirement)) (d : ℕ) (earlier : List Sibling) (x : OpNumber) (xs : List OpNumber) (n : Node G) (is : Items G) → v ≡ w ++ d ∷ [] → c < suc d → AreOrdered us earlier → Tells us earlier bad →
+          IsChild job s who ways j x.0 → IsIt job s who ways k (w ++ d ∷ []) x.0 earlier roots n →
           ShowsChildren job s who ways w j (suc d) (earlier ++ record { op = x.0; needs = needs_issued job n } ∷ []) roots xs is → Left d earlier (x ∷ xs) (tree.sweep G M bad (child_op (tree.settle G M n) is))
-      it_swept bad d earlier x xs (op D N i f ps st js) is e l tells called h rest =
+      it_swept bad d earlier x xs (op D N i f ps st js) is e l ordered tells called h rest =
           let n : Node G = op D N i f ps st js in
           let shown = over_shows job s who ways root stand k v it Here change (λ y z a. deep c y z (subst (λ q. Here ((q ++ y ∷ []) ++ z)) v_is a)) makings earlier roots more wider below n
           (subst (λ z. IsOpen job s who ways z k earlier roots n) (sym e) (subst (λ y. IsOpen job s who ways (w ++ d ∷ []) y earlier roots n) h.0 h.1)) closing_k over_k in
@@ -245,22 +249,23 @@ module _ (job : Job) (makings : ℕ) where
           let now = tree.stage_of G (tree.settle G M n) in
           subst (λ b. Left d earlier (x ∷ xs) (cond b (child_op (op D N i f ps dropped (tree.sweep G M [] js)) (tree.sweep G M (D ∷ bad) is)) (child_op (tree.settle G M n) (tree.sweep G M (cond (tree.has_failed G now) (D ∷ bad) bad) is))))
           (sym (ap (λ b. b && tree.meets_any G M bad D) (over_unwaiting now shown.1))) (
-            child_kept x.0 D h.1.0.within called,
+            child_kept x.0 h.1.0.within called,
             there,
             rest_swept (cond (tree.has_failed G now) (D ∷ bad) bad) (suc d) (earlier ++ record { op = x.0; needs = D } ∷ []) xs is l
+                (node_ordered job u who ways (w ++ d ∷ []) x.0 earlier more (tree.settle G M n) there ordered)
                 (λ Q. worse_tells job u who ways makings bad earlier x.0 (tree.settle G M n) told Q (tells Q)) rest,
           )
 
-      pub among_swept : (c1 : ℕ) (bad : List (List Requirement)) (d : ℕ) (earlier : List Sibling) (xs : List OpNumber) (is : Items G) → d + c1 ≡ c → Tells us earlier bad →
+      pub among_swept : (c1 : ℕ) (bad : List (List Requirement)) (d : ℕ) (earlier : List Sibling) (xs : List OpNumber) (is : Items G) → d + c1 ≡ c → AreOrdered us earlier → Tells us earlier bad →
           HasAmong job s who ways (IsIt job s who ways k) c1 [] w j d earlier roots xs is → Left d earlier xs (tree.sweep G M bad (up_among G M c1 [] is))
-      among_swept c1 bad d earlier xs no_item e tells h = absurd h
-      among_swept c1 bad d earlier xs (said t is) e tells h = among_swept c1 bad d earlier xs is e tells h
-      among_swept c1 bad d earlier [] (child_op n is) e tells h = absurd h
-      among_swept zero bad d earlier (x ∷ xs) (child_op n is) e tells h =
-          it_swept bad d earlier x xs n is (v_is ∙ ap (λ z. w ++ z ∷ []) (sym (here e))) (omega (arith, here e)) tells h.0 h.1 h.2
+      among_swept c1 bad d earlier xs no_item e o tells h = absurd h
+      among_swept c1 bad d earlier xs (said t is) e o tells h = among_swept c1 bad d earlier xs is e o tells h
+      among_swept c1 bad d earlier [] (child_op n is) e o tells h = absurd h
+      among_swept zero bad d earlier (x ∷ xs) (child_op n is) e o tells h =
+          it_swept bad d earlier x xs n is (v_is ∙ ap (λ z. w ++ z ∷ []) (sym (here e))) (omega (arith, here e)) o tells h.0 h.1 h.2
         where
           here : d + 0 ≡ c → d ≡ c
           here q = omega (arith, q)
-      among_swept (suc c1) bad d earlier (x ∷ xs) (child_op n is) e tells h =
-          one_swept bad d earlier x xs n (up_among G M c1 [] is) (λ q. absurd (omega (arith, e, q))) tells h.0 h.1
-          (λ worse t. among_swept c1 worse (suc d) (earlier ++ record { op = x.0; needs = needs_issued job n } ∷ []) xs is (omega (arith, e)) t h.2)
+      among_swept (suc c1) bad d earlier (x ∷ xs) (child_op n is) e o tells h =
+          one_swept bad d earlier x xs n (up_among G M c1 [] is) (λ q. absurd (omega (arith, e, q))) o tells h.0 h.1
+          (λ worse o t. among_swept c1 worse (suc d) (earlier ++ record { op = x.0; needs = needs_issued job n } ∷ []) xs is (omega (arith, e)) o t h.2)

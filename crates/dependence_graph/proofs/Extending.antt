@@ -11,7 +11,7 @@ use Rattle.region_tree.specs.declared.needs.Needs.{Needs}
 use Rattle.region_tree.specs.declared.tree.OpNumber.{OpNumber}
 use Rattle.region_tree.specs.Needs.{AreNeeds, IsNeed}
 use Rattle.dependence_graph.specs.Entries.{Knot}
-use Rattle.dependence_graph.specs.Graphs.{Waits, issued, issued_one, knot_on}
+use Rattle.dependence_graph.specs.Graphs.{Waits, issued_each, issued_one, knot_on}
 use Rattle.dependence_graph.specs.Issues.{is_below}
 use Rattle.dependence_graph.specs.Knots.{all_done, is_done, is_idle, is_ready, knot_at, no_knot, number, some_failed, stage_at}
 use Rattle.dependence_graph.specs.Links.{AreGrown, AreTold, IsIssued, IsLinked, WaitsFor, link_at, no_link, waiters_at}
@@ -291,7 +291,7 @@ not_parked_at_first ks on = new_stage ks on (λ (s : Stage). s ≡ Parked → �
 
 -- all that is issued
 pub extends_issued : (t : RegionTree) (parent : OpNumber) (ns : List Needs) (g : Waits) →
-    Extends g.knots (issued t g parent ns).knots
+    Extends g.knots (issued_each t g parent ns).knots
 extends_issued t parent [] g = extends_itself g.knots
 extends_issued t parent (n ∷ ns) g =
     extends_on g.knots (issued_one t g parent n.items).knots _
@@ -299,7 +299,7 @@ extends_issued t parent (n ∷ ns) g =
     (extends_issued t parent ns (issued_one t g parent n.items))
 
 pub size_issued : (t : RegionTree) (parent : OpNumber) (ns : List Needs) (g : Waits) →
-    length (issued t g parent ns).knots ≡ length g.knots + length ns
+    length (issued_each t g parent ns).knots ≡ length g.knots + length ns
 size_issued t parent [] g = omega arith
 size_issued t parent (n ∷ ns) g =
     omega (

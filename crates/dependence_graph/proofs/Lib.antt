@@ -1,3 +1,5 @@
+pub mod Covering
+pub mod Examples
 pub mod Extending
 pub mod Following
 pub mod IssuingSteps

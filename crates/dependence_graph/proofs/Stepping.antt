@@ -17,7 +17,8 @@ use Rattle.dependence_graph.specs.Links.{AreReady, HasAll, HasReady, IsIssued, I
 use Rattle.dependence_graph.specs.declared.link.Link.{Link}
 use Rattle.dependence_graph.specs.declared.stage.Stage.TheVariants.{Begun, Done, Parked, Stopped}
 use Rattle.dependence_graph.specs.declared.stage.Waiting.{Waiting as Wait}
-use Rattle.dependence_graph.proofs.Extending.{Extends, IsChild, extends_issued, ready_extends, size_issued}
+use Rattle.dependence_graph.proofs.Covering.{extends_covered, size_covered}
+use Rattle.dependence_graph.proofs.Extending.{Extends, IsChild, ready_extends}
 use Rattle.dependence_graph.proofs.Following.{not_ready, progress_there, stage_in}
 use Rattle.dependence_graph.proofs.Linked.{all_ready, issued_done, linked_done, progress_not_done, ready_done, same_bools}
 use Rattle.dependence_graph.proofs.Parked.{all_parked, issued_parked, linked_parked, own_children, ready_parked}
@@ -91,10 +92,10 @@ module _ (t : RegionTree) (ks : List Knot) (ls : List Link) (flags : List Bool) 
 module _ (t : RegionTree) (ks us : List Knot) (ls : List Link) (flags : List Bool) (listing more : List Listed) (parent : OpNumber) (needs : List Needs)
     (k : IsKept ks ls flags listing) (e : state us more ≡ issued t (state ks listing) parent needs) where
   extends : Extends ks us
-  extends = subst (λ (w : Waits). Extends ks w.knots) (sym e) (extends_issued t parent needs (state ks listing))
+  extends = subst (λ (w : Waits). Extends ks w.knots) (sym e) (extends_covered t parent needs (state ks listing))
 
   pub issued_size : length us ≡ length ks + length needs
-  issued_size = ap (λ (w : Waits). length w.knots) e ∙ size_issued t parent needs (state ks listing)
+  issued_size = ap (λ (w : Waits). length w.knots) e ∙ size_covered t parent needs (state ks listing)
 
   was_there : (j : ℕ) → is_ready ks j ≡ true → j < length ks
   was_there j r = ⊎_elim (λ l. l)

@@ -1,6 +1,6 @@
 -- The graph: operations with what they wait for, and those that have not ended with their needs.
-use Rattle.std.specs.Prelude.{◌∷◌, ◌++◌, List, [], cond, length, set, ℕ}
-use Rattle.region_finder.specs.Listings.{Listed, earlier, inserted, listed, without}
+use Rattle.std.specs.Prelude.{◌∷◌, ◌++◌, List, [], cond, length, set, suc, ℕ}
+use Rattle.region_finder.specs.Listings.{Listed, all_uncovered, earlier, inserted, listed, without}
 use Rattle.region_tree.specs.Trees.{RegionTree}
 use Rattle.region_tree.specs.declared.needs.Need.{Need}
 use Rattle.region_tree.specs.declared.needs.Needs.{Needs}
@@ -40,9 +40,19 @@ issued_one t g parent needs = record {
   listing = inserted (listed t parent (number (length g.knots)) needs) g.listing;
 }
 
+abbrev pub issued_each : RegionTree → Waits → OpNumber → List Needs → Waits
+issued_each t g parent [] = g
+issued_each t g parent (n ∷ ns) = issued_each t (issued_one t g parent n.items) parent ns
+
+-- From a number on operations have these needs, and what one of them covers of earlier ones is listed no more.
+abbrev pub covered_each : ℕ → List Needs → Waits → ℕ → Waits
+covered_each context [] g k = g
+covered_each context (n ∷ ns) g k =
+    covered_each context ns
+    (record { knots = g.knots; listing = all_uncovered context k n.items g.listing }) (suc k)
+
 abbrev pub issued : RegionTree → Waits → OpNumber → List Needs → Waits
-issued t g parent [] = g
-issued t g parent (n ∷ ns) = issued t (issued_one t g parent n.items) parent ns
+issued t g parent ns = covered_each parent.0 ns (issued_each t g parent ns) (length g.knots)
 
 -- ---- the other steps
 

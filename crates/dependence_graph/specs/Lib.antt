@@ -5,3 +5,4 @@ pub mod Issues
 pub mod Knots
 pub mod Laws
 pub mod Links
+pub mod Rows

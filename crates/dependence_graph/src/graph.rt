@@ -73,7 +73,8 @@ impl<F: Finder + Drop> Graph<F> {
     }
 
     /// Issues children of an operation in progress. Each waits for the earlier ones that have not ended and
-    /// that it interferes with; where one of them has failed or was dropped it is dropped at once.
+    /// that it interferes with; where one of them has failed or was dropped it is dropped at once. What it covers
+    /// of earlier ones is listed no more: whoever interferes with that interferes with it, and waits for it alone.
     pub fn issue<L: Ledger, P: Probe<L>>(
         &mut self,
         tree: &P,

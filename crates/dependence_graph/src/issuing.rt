@@ -1,10 +1,11 @@
 //! How operations are issued, and taken back where memory is missing.
 
-ghost use Rattle.std.specs.Prelude.{◌≡◌, ◌<◌, ◌≤◌, All, IfOk, IsOk, OnErr, OnOk, [], ◌∷◌, ◌++◌, filter, length, take, vec_capacity, vec_len};
+ghost use Rattle.std.specs.Prelude.{◌≡◌, ◌<◌, ◌≤◌, ◌+◌, ◌^◌, All, IfOk, IsOk, List, OnErr, OnOk, [], ◌∷◌, ◌++◌, filter, length, take, vec_capacity, vec_len};
+ghost use Rattle.dependence_graph.specs.Entries.{Knot};
 ghost use Rattle.region_finder.specs.Listings.{IsListingOf, earlier};
 ghost use Rattle.region_tree.specs.Needs.{AreNeeds};
 ghost use Rattle.dependence_graph.specs.Awaited.{awaited_ops};
-ghost use Rattle.dependence_graph.specs.Graphs.{issued, issued_one, knot_on};
+ghost use Rattle.dependence_graph.specs.Graphs.{covered_each, issued, issued_each, issued_one, knot_on};
 ghost use Rattle.dependence_graph.specs.Issues.{AreAllNeeds, is_below, state};
 ghost use Rattle.dependence_graph.specs.Links.{AreGrown, IsIssued, IsLinked, no_link};
 
@@ -15,7 +16,7 @@ use crate::link::Link;
 use crate::linking::link;
 use crate::stage::Stage;
 use plain_values::Sequence;
-use region_finder::{Finder, Probe, Steps};
+use region_finder::{Finder, Paths, Probe, Steps};
 use region_tree::{Needs, OpNumber};
 use std::alloc::AllocError;
 use std::sync::ledger::Ledger;
@@ -120,6 +121,68 @@ fn unlist<F: Finder>(finder: &mut F, first: usize, size: usize)
 }
 
 /// Issues operations one after the other. Where memory is missing none is issued.
+fn issue_each<F: Finder, L: Ledger, P: Probe<L>>(
+    finder: &mut F,
+    knots: &mut Vec<Knot>,
+    links: &mut Vec<Link>,
+    tree: &P,
+    parent: OpNumber,
+    needs: &[Needs],
+    steps: &mut Steps<L>,
+) -> Result<(), AllocError>
+    requires listing { IsListingOf (P.Paths.forest tree.now) (F.listing finder.old) }
+    requires needs { AreAllNeeds (P.Paths.forest tree.now) needs.now }
+    requires listed { All (IsIssued knots.old.items) (F.listing finder.old) }
+    requires linked { IsLinked knots.old.items links.old.items }
+    ensures issued { OnOk result (state knots.new.items (F.listing finder.new)
+        ≡ issued_each (P.Paths.forest tree.now) (state knots.old.items (F.listing finder.old)) parent needs.now) }
+    ensures unchanged { OnErr result (state knots.new.items (F.listing finder.new)
+        ≡ state knots.old.items (F.listing finder.old)) }
+    ensures linked { IsLinked knots.new.items links.new.items }
+    ensures listed { All (IsIssued knots.new.items) (F.listing finder.new) }
+    ensures placed { IsListingOf (P.Paths.forest tree.now) (F.listing finder.new) }
+{
+    let first = knots.len();
+    for one in needs {
+        match issue_one(finder, knots, links, tree, parent, one, steps) {
+            Ok(()) => {}
+            Err(failed) => {
+                unlist(finder, first, knots.len());
+                knots.truncate(first);
+                links.truncate(first);
+                return Err(failed);
+            }
+        }
+    }
+    Ok(())
+}
+
+/// What operations that were issued from a number on cover of earlier ones is listed no more.
+fn cover_all<F: Finder, P: Paths>(
+    finder: &mut F,
+    tree: &P,
+    parent: OpNumber,
+    first: usize,
+    needs: &[Needs],
+)
+    requires listing { IsListingOf (P.forest tree.now) (F.listing finder.old) }
+    requires needs { AreAllNeeds (P.forest tree.now) needs.now }
+    requires numbers { first + length needs.now < 2 ^ 64 }
+    ensures { (ks : List Knot) → state ks (F.listing finder.new)
+        ≡ covered_each parent.0 needs.now (state ks (F.listing finder.old)) first }
+{
+    for place in 0..needs.len() {
+        finder.cover(
+            tree,
+            parent,
+            OpNumber((first + place) as u64),
+            &needs[place],
+        );
+    }
+}
+
+/// Issues operations, and then takes out of the listing what they cover, which needs no memory. Where memory is
+/// missing none is issued.
 pub fn issue_all<F: Finder, L: Ledger, P: Probe<L>>(
     finder: &mut F,
     knots: &mut Vec<Knot>,
@@ -141,16 +204,7 @@ pub fn issue_all<F: Finder, L: Ledger, P: Probe<L>>(
     ensures listed { All (IsIssued knots.new.items) (F.listing finder.new) }
 {
     let first = knots.len();
-    for one in needs {
-        match issue_one(finder, knots, links, tree, parent, one, steps) {
-            Ok(()) => {}
-            Err(failed) => {
-                unlist(finder, first, knots.len());
-                knots.truncate(first);
-                links.truncate(first);
-                return Err(failed);
-            }
-        }
-    }
+    issue_each(finder, knots, links, tree, parent, needs, steps)?;
+    cover_all(finder, tree, parent, first, needs);
     Ok(())
 }

@@ -29,7 +29,7 @@ use Rattle.board_terms.specs.Gives.{also_said}
 use Rattle.board_terms.specs.Stages.{is_over, stage_of}
 use Rattle.board_terms.specs.States.{State, operation_at}
 use Rattle.board_trees.specs.Names.{AreMade}
-use Rattle.board_trees.specs.Shows.{Shows, ShowsBoard, ShowsChildren, is_claimed, needs_issued}
+use Rattle.board_trees.specs.Shows.{AreListed, Shows, ShowsBoard, ShowsChildren, is_claimed, needs_issued, siblings}
 use Rattle.board_trees.specs.Waits.{Sibling}
 use Rattle.given_trees.specs.Parts.{MapShows}
 use Rattle.changed_trees.specs.Changes.{Change, IsAt, IsWider}
@@ -37,16 +37,16 @@ use Rattle.changed_trees.specs.Edits.{edited, told_at}
 use Rattle.changed_trees.specs.Given.{Opens, effects_of, given_board, given_of, left_of, makings_before, yielded_by}
 use Rattle.changed_trees.specs.Open.{Asked, HasAt, IsOpen, OpenBoard, OpenRow}
 use Rattle.changed_trees.proofs.Below.{children_kept}
-use Rattle.changed_trees.proofs.Kept.{back, shown_match, wider_on}
+use Rattle.changed_trees.proofs.Kept.{back, clear_kept, listed_kept, shown_match, wider_on}
 use Rattle.changed_trees.proofs.One.{IsOngoing, knot_is, one_changed, row_is}
 use Rattle.changed_trees.proofs.Walks.{OfAll, told_holds}
 use Rattle.yielded_trees.proofs.Builder.{OpenHere, change, opens, own_apart_same, own_made_same, own_same}
 use Rattle.yielded_trees.proofs.Found.{Here, by_out, here_at}
 use Rattle.yielded_trees.proofs.Out.{Begun, has_begun}
-use Rattle.yielded_trees.proofs.Trees.{many_children, paused_needs, restop, text_count, text_made, text_said, text_shows, with_text}
+use Rattle.yielded_trees.proofs.Trees.{many_children, paused_needs, restop, text_count, text_made, text_said, text_shows, text_siblings, with_text}
 use Rattle.board_trees.proofs.Along.{not_above}
 use Rattle.board_terms.specs.declared.operation.Ending.{Ending}
-use Rattle.board_trees.specs.Stages.{IsEnding}
+use Rattle.board_trees.specs.Stages.{IsEnding, was_begun}
 use Rattle.given_trees.specs.Segments.{AreLeft}
 use Rattle.given_trees.proofs.Segments.{segments_show}
 
@@ -188,6 +188,10 @@ module _ (job : Job) (s : State) (b : Board (regent_ground (spaces_of job.code))
         stands = inl (ap (λ (x : Knot). x.stage) same_knot ∙ begun.stage, record { own = e; activity_is = ap (λ (x : Operation). x.activity) row_here ∙ ended.activity_is; ends = x.ends });
         free = λ p z. absurd (not_begun (sym begun.stage ∙ sym (ap (λ (x : Knot). x.stage) same_knot) ∙ p));
         waits = tt;
+        begun = λ c. clear_kept job s u h.who h.who b.ways b.ways (λ w. v ≡ w) changes D earlier (shown.0.begun (ap was_begun begun.stage));
+        listed = subst (λ ks. AreListed job u h.who wide k (siblings job ks js)) (sym (ap (λ (x : Operation). x.children) row_here ∙ ended.children))
+            (subst (AreListed job u h.who wide k) (sym (text_siblings job o.children is y.text))
+            (listed_kept job s u h.who h.who b.ways b.ways (λ w. v ≡ w) changes roots wide wide_roots under k (λ x z n c. c) (siblings job o.children is) shown.0.listed));
       }
 
       kids : ShowsChildren job u h.who b.ways v k 0 [] wide o.children js

@@ -1,20 +1,19 @@
 -- What a play keeps behind each call.
-use Rattle.std.proofs.Common.{◌≡◌, ◌<◌, ◌≤◌, ◌+◌, ◌++◌, ◌∷◌, [], ◌∙◌, ℕ, true, List, ⊎_elim, ap, arith, length, refl, set, sym}
+use Rattle.std.proofs.Common.{◌≡◌, ◌<◌, ◌≤◌, ◌++◌, ◌∷◌, [], ◌∙◌, ℕ, true, List, ⊎_elim, ap, arith, length, refl, set, sym}
 use Rattle.std.proofs.lemmas.Bool.{and_parts, cases_eq}
-use Rattle.std.proofs.lemmas.List.{get_or_push, get_or-set_other, get_or-set_same, length_push, length-set}
-use Rattle.std.proofs.lemmas.List.Elements.{All-append, All-cons, All-filter, All-head, All-nil, All-tail, All-weaker}
+use Rattle.std.proofs.lemmas.List.{get_or-set_other, get_or-set_same, length-set}
+use Rattle.std.proofs.lemmas.List.Elements.{All-append, All-cons, All-filter, All-nil, All-weaker}
 use Rattle.dependence_graph.specs.Entries.{Knot}
-use Rattle.dependence_graph.specs.Graphs.{Waits, begun, ended, issued, issued_one, knot_on, parked}
+use Rattle.dependence_graph.specs.Graphs.{Waits, begun, ended, issued, parked}
 use Rattle.dependence_graph.specs.Issues.{AreAllNeeds}
-use Rattle.dependence_graph.specs.Knots.{all_done, given_up, is_idle, is_ready, knot_at, no_knot, number, with_stage}
+use Rattle.dependence_graph.specs.Knots.{all_done, given_up, is_idle, is_ready, knot_at, no_knot, with_stage}
 use Rattle.dependence_graph.specs.declared.stage.How.{How}
 use Rattle.dependence_graph.specs.declared.stage.How.TheVariants as how
 use Rattle.dependence_graph.specs.declared.stage.Stage.TheVariants as stage
 use Rattle.dependence_graph.specs.declared.stage.Waiting.{Waiting}
-use Rattle.dependence_graph.proofs.Extending.{extends_issued, listing_push, size_issued}
+use Rattle.dependence_graph.proofs.Covering.{children_issued, extends_covered, listing_issued, size_covered}
 use Rattle.dependence_graph.proofs.Following.{all_give_up, idle_there}
-use Rattle.region_finder.specs.Listings.{ArePlaced, IsListingOf, earlier}
-use Rattle.region_tree.specs.Needs.{AreNeeds}
+use Rattle.region_finder.specs.Listings.{ArePlaced, IsListingOf}
 use Rattle.region_tree.specs.Trees.{RegionTree}
 use Rattle.region_tree.specs.declared.needs.Needs.{Needs}
 use Rattle.region_tree.specs.declared.tree.OpNumber.{OpNumber}
@@ -57,30 +56,10 @@ own_child ks f parent child i o =
 
 -- ---- issues
 
-listing_issued : (t : RegionTree) (parent : OpNumber) (ns : List Needs) (g : Waits) → AreAllNeeds t ns →
-    IsListingOf t g.listing → IsListingOf t (issued t g parent ns).listing
-listing_issued t parent [] g a l = l
-listing_issued t parent (n ∷ ns) g a l =
-    listing_issued t parent ns (issued_one t g parent n.items) (All-tail (λ (m : Needs). AreNeeds t m.items) n ns a)
-    (listing_push t parent (number (length g.knots)) n.items g.listing (All-head (λ (m : Needs). AreNeeds t m.items) n ns a) l)
-
-children_issued : (t : RegionTree) (parent : OpNumber) (ns : List Needs) (g : Waits) (child : ℕ) → length g.knots ≤ child →
-    child < length g.knots + length ns → (knot_at (issued t g parent ns).knots child).parent ≡ parent
-children_issued t parent [] g child first last = absurd (omega (arith, first, last))
-children_issued t parent (n ∷ ns) g child first last =
-    let one = issued_one t g parent n.items in
-    let size = length_push g.knots (knot_on g.knots parent (earlier t g.listing parent.0 n.items) stage.Waiting stage.Dropped) in
-    ⊎_elim
-    (λ e. ap (λ (y : Knot). y.parent) ((extends_issued t parent ns one).same child (omega (arith, e, size)))
-    ∙ ap (λ (k : ℕ). (knot_at one.knots k).parent) e
-    ∙ ap (λ (y : Knot). y.parent) (get_or_push g.knots (knot_on g.knots parent (earlier t g.listing parent.0 n.items) stage.Waiting stage.Dropped) no_knot (length g.knots) refl))
-    (λ e. children_issued t parent ns one child (omega (arith, first, e, size)) (omega (arith, last, size)))
-    (cases_eq child (length g.knots))
-
 pub play_issued : (t : RegionTree) (g : Waits) (fs : List Family) (parent : OpNumber) (ns : List Needs) → AreAllNeeds t ns →
     IsPlay t g fs → IsPlay t (issued t g parent ns) fs
 play_issued t g fs parent ns a p =
-    let more = extends_issued t parent ns g in
+    let more = extends_covered t parent ns g in
     record {
       listing = listing_issued t parent ns g a p.listing;
       issued = still_issued g.knots (issued t g parent ns).knots fs
@@ -98,7 +77,7 @@ play_noted t g fs f ns a first count p =
       issued = All-append (IsIssuedBy us) fs (f ∷ []) behind.issued
           (All-cons (IsIssuedBy us) f []
           (λ child h. (
-            omega (arith, h.below, first, count, size_issued t f.parent ns g),
+            omega (arith, h.below, first, count, size_covered t f.parent ns g),
             ap (λ (o : OpNumber). o.0) (children_issued t f.parent ns g child (omega (arith, h.from, first)) (omega (arith, h.below, first, count))),
           ))
           (All-nil (IsIssuedBy us)));

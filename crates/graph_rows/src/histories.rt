@@ -16,7 +16,7 @@ use std::alloc::{AllocError, Global};
 use std::sync::ledger::Ledger;
 
 /// How many steps a history has.
-const LENGTH: u64 = 60;
+const LENGTH: u64 = 75;
 
 /// Numbers that look like drawn ones, and are the same each time (a linear congruential generator).
 #[derive(Drop)]
@@ -94,6 +94,11 @@ impl Both {
         self.walk.ended(op);
     }
 
+    fn cover(&mut self, context: OpNumber, op: OpNumber, needs: &Needs) {
+        self.scan.cover(context, op, needs);
+        self.walk.cover(context, op, needs);
+    }
+
     /// Whether both tell the same earlier operations, and how many.
     fn earlier<L: Ledger>(
         &mut self,
@@ -115,7 +120,8 @@ impl Both {
         }
     }
 
-    /// One step of a history: an operation is listed, or listed anew with other needs, or ends, or both are asked.
+    /// One step of a history: an operation is listed, or listed anew with other needs, or ends, or covers others, or both are
+    /// asked.
     fn step<L: Ledger>(
         &mut self,
         alloc: Global,
@@ -125,8 +131,9 @@ impl Both {
         let context = OpNumber(draws.below(2));
         let op = OpNumber(draws.below(12));
         let needs = draws.needs(alloc, self.scan.forest().forest())?;
-        match draws.below(4) {
+        match draws.below(5) {
             0 => self.ended(op),
+            2 => self.cover(context, op, &needs),
             1 => return self.earlier(context, &needs, steps),
             _ => self.put(context, op, &needs)?,
         }

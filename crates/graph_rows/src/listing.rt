@@ -58,6 +58,13 @@ impl<F: Finder + Drop> Listing<F> {
         self.finder.ended(op);
     }
 
+    /// Takes out what an operation's needs cover: nothing, where a need is none of the forest.
+    pub fn cover(&mut self, context: OpNumber, op: OpNumber, needs: &Needs) {
+        if are_needs(self.forest.forest(), needs) {
+            self.finder.cover(&self.forest, context, op, needs);
+        }
+    }
+
     /// The listed operations of a context that interfere with these needs: none where a need is none of the forest.
     pub fn earlier<L: Ledger>(
         &mut self,

@@ -57,4 +57,8 @@ impl<F: Finder + Drop> Finder for Refusing<F> {
     fn ended(&mut self, op: OpNumber) {
         self.finder.ended(op);
     }
+
+    fn cover<P: Paths>(&mut self, tree: &P, context: OpNumber, op: OpNumber, needs: &Needs) {
+        self.finder.cover(tree, context, op, needs);
+    }
 }

@@ -42,7 +42,21 @@ fn print_found<F: Finder + Drop, L: Ledger>(
     println!(rt; "{word}:{found} in {tests}")
 }
 
-/// A writer of the fourth colour, one of the whole root, and one of a child of its aliased partition.
+/// Lists one more writer, which takes the place of what it covers.
+fn add_writer<F: Finder + Drop>(
+    alloc: Global,
+    listing: &mut Listing<F>,
+    op: u64,
+    word: &str,
+) -> Result<(), AllocError> {
+    let needs = needs_of(alloc, listing.forest().forest(), word)?;
+    listing.put(OpNumber(0), OpNumber(op), &needs)?;
+    listing.cover(OpNumber(0), OpNumber(op), &needs);
+    Ok(())
+}
+
+/// A writer of the fourth colour, one of the whole root, and one of a child of its aliased partition; and what is left
+/// for one of the whole root behind others that cover some of the three, and all.
 pub fn print_walk<F: Finder + Drop, L: Ledger>(
     rt: &HostRuntime,
     name: &str,
@@ -55,6 +69,11 @@ pub fn print_walk<F: Finder + Drop, L: Ledger>(
     let mut listing = three_writers(rt.alloc(), finder)?;
     for word in ["w5", "w0", "w7"] {
         print_found(rt, &mut listing, word, steps)?;
+    }
+    println!(rt; "behind one more of the second colour, and one of all")?;
+    for (op, word) in [(4, "w3"), (5, "w0")] {
+        add_writer(rt.alloc(), &mut listing, op, word)?;
+        print_found(rt, &mut listing, "w0", steps)?;
     }
     Ok(())
 }

@@ -4,12 +4,12 @@ use Rattle.std.specs.Prelude.{get_or, slice_get}
 use Rattle.std.proofs.lemmas.Bool.{and_parts, false≢true}
 use Rattle.std.proofs.lemmas.List.{get_or_append_left, get_or-set_other, length-append, length-set}
 use Rattle.plain_values.specs.Points.{points}
-use Rattle.region_finder.specs.Listings.{earlier}
+use Rattle.region_finder.specs.Listings.{all_uncovered, earlier}
 use Rattle.region_tree.specs.Trees.{RegionTree, set_at}
 use Rattle.region_tree.specs.declared.needs.Needs.{Needs}
 use Rattle.region_tree.specs.declared.tree.OpNumber.{OpNumber}
 use Rattle.dependence_graph.specs.Entries.{Knot}
-use Rattle.dependence_graph.specs.Graphs.{Waits, ended, issued, issued_one, knot_on, waited}
+use Rattle.dependence_graph.specs.Graphs.{Waits, covered_each, ended, issued, issued_each, issued_one, knot_on, waited}
 use Rattle.dependence_graph.specs.Knots.{give_up, give_up_each, given_up, knot_at, no_knot, number, same_stage, some_failed, with_stage}
 use Rattle.dependence_graph.specs.declared.stage.How.{How}
 use Rattle.dependence_graph.specs.declared.stage.How.TheVariants as how
@@ -72,10 +72,17 @@ module _ (k : ℕ) (o : Operation) where
       let l = h.0 in
       (omega (arith, l, length-append ks more), ap (λ (y : Knot). y.stage) (get_or_append_left ks more no_knot k l) ∙ h.1)
 
-  all_issued : (t : RegionTree) (g : Waits) (parent : OpNumber) (ns : List Needs) → HasKnot g.knots → HasKnot (issued t g parent ns).knots
-  all_issued t g parent [] h = h
-  all_issued t g parent (n ∷ ns) h = all_issued t (issued_one t g parent n.items) parent ns
+  each_issued : (t : RegionTree) (g : Waits) (parent : OpNumber) (ns : List Needs) → HasKnot g.knots → HasKnot (issued_each t g parent ns).knots
+  each_issued t g parent [] h = h
+  each_issued t g parent (n ∷ ns) h = each_issued t (issued_one t g parent n.items) parent ns
       (knot_more g.knots (knot_on g.knots parent (earlier t g.listing parent.0 n.items) knot.Waiting knot.Dropped ∷ []) h)
+
+  each_covered : (context : ℕ) (ns : List Needs) (g : Waits) (n : ℕ) → HasKnot g.knots → HasKnot (covered_each context ns g n).knots
+  each_covered context [] g n h = h
+  each_covered context (m ∷ ns) g n h = each_covered context ns (record { knots = g.knots; listing = all_uncovered context n m.items g.listing }) (suc n) h
+
+  all_issued : (t : RegionTree) (g : Waits) (parent : OpNumber) (ns : List Needs) → HasKnot g.knots → HasKnot (issued t g parent ns).knots
+  all_issued t g parent ns h = each_covered parent.0 ns (issued_each t g parent ns) (length g.knots) (each_issued t g parent ns h)
 
   -- ---- what gives up waits
 

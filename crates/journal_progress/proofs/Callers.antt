@@ -1,5 +1,5 @@
 -- Up from an operation by its callers, and down its way in the tree, to its children.
-use Rattle.std.proofs.Common.{◌≡◌, ◌<◌, ◌⊎◌, ◌++◌, ◌∷◌, ◌∙◌, ℕ, zero, suc, List, Option, Some, [], ap, arith, eqb-true, inr, length, refl, subst, sym, true}
+use Rattle.std.proofs.Common.{◌≡◌, ◌<◌, ◌⊎◌, ◌++◌, ◌∷◌, ◌∙◌, ℕ, zero, suc, List, Option, Some, [], ap, arith, eqb-true, false, inr, length, refl, subst, sym, true}
 use Rattle.std.specs.Prelude.{All, nat_eq, slice_get}
 use Rattle.std.specs.List.{Contains}
 use Rattle.std.proofs.lemmas.Bool.{and_parts}
@@ -15,8 +15,8 @@ use Rattle.board_rules.specs.Ground.{Ground}
 use Rattle.regent_boards.specs.RegentMachine.{regent_ground}
 use Rattle.code_boards.specs.Views.{spaces_of}
 use Rattle.board_terms.specs.States.{State, operation_at}
-use Rattle.board_trees.specs.Shows.{IsChild, Leads, Shows, ShowsChildren, needs_issued}
-use Rattle.board_trees.specs.Waits.{Sibling}
+use Rattle.board_trees.specs.Shows.{AreListed, IsChild, IsListed, Leads, Shows, ShowsChildren, needs_issued, siblings}
+use Rattle.board_trees.specs.Waits.{Sibling, has_ended}
 use Rattle.board_trees.proofs.Along.{some_same}
 use Rattle.journal_progress.specs.Laws.{IsAbove, caller_up}
 
@@ -74,7 +74,7 @@ module _ (job : Job) (s : State) (who : ℕ → ℕ) (ways : List (List ℕ)) wh
 
   -- it is main, or another's child
   abbrev pub IsCalled : ℕ → List RootId → Node G → Type 0
-  IsCalled k above n = (k ≡ 0) ⊎ ((j : ℕ) × IsChild job s who ways j k above (needs_issued job n))
+  IsCalled k above n = (k ≡ 0) ⊎ ((j : ℕ) × (later : List Sibling) × IsChild job s who ways j k × (has_ended s.waits.knots k ≡ false → IsListed job s who above j k (needs_issued job n) later))
 
   -- a root that its caller made, or another above
   abbrev pub IsOwned : ℕ → RootId → Type 0
@@ -110,20 +110,20 @@ module _ (job : Job) (s : State) (who : ℕ → ℕ) (ways : List (List ℕ)) wh
       reached (c ∷ way) w j k earlier above (op D N i f ps st is) h m o r l =
           let own = (operation_at s j).frame.own in
           let up = climbs_among c way w j k 0 [] (above ++ own) (operation_at s j).children is l.0 h.1 l.1 l.2 in
-          reached_among c way w j k 0 [] (above ++ own) (operation_at s j).children is l.0 h.1
+          reached_among c way w j k 0 [] (above ++ own) (operation_at s j).children is l.0 h.1 h.0.listed
           (All-append (λ (r : RootId). r.0 < length s.roots) above own m (own_made j))
           (All-append (IsOwned k) above own o (All-weaker (Contains own) (IsOwned k)
           (λ r q. (length way, subst (λ z. Contains (operation_at s z).frame.own r) (sym up) q)) own (All-contains_itself own))) l.1 l.2
 
       reached_among : (c : ℕ) (way w : List ℕ) (j k d : ℕ) (earlier : List Sibling) (roots : List RootId) (ks : List OpNumber) (is : Items G) (x : ℕ) → ShowsChildren job s who ways w j d earlier roots ks is →
-          WereMade roots → All (IsOwned k) roots → slice_get ks c ≡ Some (number x) → Leads job s x way k → Reached k (find_among G c way is)
-      reached_among c way w j k d earlier roots ks no_item x h m o e l = absurd (none-some (number x) (ap (λ ks. slice_get ks c) (sym h) ∙ e))
-      reached_among c way w j k d earlier roots ks (said t is) x h m o e l = reached_among c way w j k d earlier roots ks is x h m o e l
-      reached_among c way w j k d earlier roots [] (child_op n is) x h m o e l = absurd h
-      reached_among zero way w j k d earlier roots (y ∷ ys) (child_op n is) x h m o e l =
-          reached way (w ++ d ∷ []) y.0 k earlier roots n h.1 m o (inr (j, h.0)) (subst (λ (z : OpNumber). Leads job s z.0 way k) (sym (some_same y (number x) e)) l)
-      reached_among (suc c) way w j k d earlier roots (y ∷ ys) (child_op n is) x h m o e l =
-          reached_among c way w j k (suc d) (earlier ++ record { op = y.0; needs = needs_issued job n } ∷ []) roots ys is x h.2 m o e l
+          AreListed job s who roots j (siblings job ks is) → WereMade roots → All (IsOwned k) roots → slice_get ks c ≡ Some (number x) → Leads job s x way k → Reached k (find_among G c way is)
+      reached_among c way w j k d earlier roots ks no_item x h a m o e l = absurd (none-some (number x) (ap (λ ks. slice_get ks c) (sym h) ∙ e))
+      reached_among c way w j k d earlier roots ks (said t is) x h a m o e l = reached_among c way w j k d earlier roots ks is x h a m o e l
+      reached_among c way w j k d earlier roots [] (child_op n is) x h a m o e l = absurd h
+      reached_among zero way w j k d earlier roots (y ∷ ys) (child_op n is) x h a m o e l =
+          reached way (w ++ d ∷ []) y.0 k earlier roots n h.1 m o (inr (j, siblings job ys is, h.0, a.0)) (subst (λ (z : OpNumber). Leads job s z.0 way k) (sym (some_same y (number x) e)) l)
+      reached_among (suc c) way w j k d earlier roots (y ∷ ys) (child_op n is) x h a m o e l =
+          reached_among c way w j k (suc d) (earlier ++ record { op = y.0; needs = needs_issued job n } ∷ []) roots ys is x h.2 a.1 m o e l
 
   -- ---- a child
 
@@ -147,7 +147,9 @@ module _ (job : Job) (s : State) (who : ℕ → ℕ) (ways : List (List ℕ)) wh
     pub found : find_among G c [] is ≡ Some node
     pub among : Contains (children_in G is) node
     pub shows : Shows job s who ways at x earlier roots node
-    pub child : IsChild job s who ways j x roots (needs_issued job node)
+    pub child : IsChild job s who ways j x
+    pub later : List Sibling
+    pub listed : has_ended s.waits.knots x ≡ false → IsListed job s who roots j x (needs_issued job node) later
 
   whole : (n : Node G) → find G [] n ≡ Some n
   whole (op D N i f ps st is) = refl
@@ -156,13 +158,13 @@ module _ (job : Job) (s : State) (who : ℕ → ℕ) (ways : List (List ℕ)) wh
   further n y is c = let l = c.1 in (suc c.0, omega (arith, l), c.2)
 
   pub child_at : (c : ℕ) (w : List ℕ) (j d : ℕ) (earlier : List Sibling) (roots : List RootId) (ks : List OpNumber) (is : Items G) (x : ℕ) → ShowsChildren job s who ways w j d earlier roots ks is →
-      slice_get ks c ≡ Some (number x) → ChildAt j c x roots is
-  child_at c w j d earlier roots ks no_item x h e = absurd (none-some (number x) (ap (λ ks. slice_get ks c) (sym h) ∙ e))
-  child_at c w j d earlier roots ks (said t is) x h e =
-      let r = child_at c w j d earlier roots ks is x h e in
-      record { at = r.at; earlier = r.earlier; node = r.node; found = r.found; among = r.among; shows = r.shows; child = r.child }
-  child_at c w j d earlier roots [] (child_op n is) x h e = absurd h
-  child_at zero w j d earlier roots (k ∷ ks) (child_op n is) x h e =
+      AreListed job s who roots j (siblings job ks is) → slice_get ks c ≡ Some (number x) → ChildAt j c x roots is
+  child_at c w j d earlier roots ks no_item x h a e = absurd (none-some (number x) (ap (λ ks. slice_get ks c) (sym h) ∙ e))
+  child_at c w j d earlier roots ks (said t is) x h a e =
+      let r = child_at c w j d earlier roots ks is x h a e in
+      record { at = r.at; earlier = r.earlier; node = r.node; found = r.found; among = r.among; shows = r.shows; child = r.child; later = r.later; listed = r.listed }
+  child_at c w j d earlier roots [] (child_op n is) x h a e = absurd h
+  child_at zero w j d earlier roots (k ∷ ks) (child_op n is) x h a e =
       let same : k.0 ≡ x = ap (λ (o : OpNumber). o.0) (some_same k (number x) e) in
       record {
         at = w ++ d ∷ [];
@@ -171,11 +173,13 @@ module _ (job : Job) (s : State) (who : ℕ → ℕ) (ways : List (List ℕ)) wh
         found = whole n;
         among = (zero, omega arith, refl);
         shows = subst (λ y. Shows job s who ways (w ++ d ∷ []) y earlier roots n) same h.1;
-        child = subst (λ y. IsChild job s who ways j y roots (needs_issued job n)) same h.0;
+        child = subst (λ y. IsChild job s who ways j y) same h.0;
+        later = siblings job ks is;
+        listed = subst (λ y. has_ended s.waits.knots y ≡ false → IsListed job s who roots j y (needs_issued job n) (siblings job ks is)) same a.0;
       }
-  child_at (suc c) w j d earlier roots (k ∷ ks) (child_op n is) x h e =
-      let r = child_at c w j (suc d) (earlier ++ record { op = k.0; needs = needs_issued job n } ∷ []) roots ks is x h.2 e in
-      record { at = r.at; earlier = r.earlier; node = r.node; found = r.found; among = further n r.node is r.among; shows = r.shows; child = r.child }
+  child_at (suc c) w j d earlier roots (k ∷ ks) (child_op n is) x h a e =
+      let r = child_at c w j (suc d) (earlier ++ record { op = k.0; needs = needs_issued job n } ∷ []) roots ks is x h.2 a.1 e in
+      record { at = r.at; earlier = r.earlier; node = r.node; found = r.found; among = further n r.node is r.among; shows = r.shows; child = r.child; later = r.later; listed = r.listed }
 
   pub place_of : (ks : List OpNumber) (k : OpNumber) → Contains ks k → (c : ℕ) × (slice_get ks c ≡ Some k)
   place_of [] k h = absurd (omega (arith, h.1))

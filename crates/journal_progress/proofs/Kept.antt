@@ -1,18 +1,18 @@
 -- What a step on an operation keeps of a board: other operations, the points of regions, who is over, and that the graph
 -- lists no old operation anew.
-use Rattle.std.proofs.Common.{◌≡◌, ◌<◌, ◌≤◌, ◌⊎◌, ◌++◌, ◌∷◌, ◌∙◌, ◌&&◌, ⊎_elim, ℕ, zero, suc, Bool, List, [], ap, arith, cond, false, inl, inr, length, map, refl, set, subst, sym, true}
+use Rattle.std.proofs.Common.{◌≡◌, ◌<◌, ◌≤◌, ◌⊎◌, ◌++◌, ◌∷◌, ◌∙◌, ◌==◌, ◌&&◌, ⊎_elim, ℕ, zero, suc, Bool, List, [], ap, arith, cond, false, inl, inr, length, map, refl, set, subst, sym, true}
 use Rattle.std.specs.Prelude.{filter, get_or, nat_lt, not}
 use Rattle.std.specs.List.{Contains}
 use Rattle.std.proofs.lemmas.Bool.{and_parts, false≢true}
 use Rattle.std.proofs.lemmas.List.{get_or_append_left, get_or-set_other, length-append, length-set}
-use Rattle.region_finder.specs.Listings.{Listed, earlier, inserted, is_op, listed}
+use Rattle.region_finder.specs.Listings.{Listed, PlacedNeed, all_uncovered, earlier, inserted, is_covered, is_op, listed, uncovered}
 use Rattle.region_tree.specs.Entries.{TreeNode}
 use Rattle.region_tree.specs.Trees.{RegionTree, no_node, points_of_content, set_at}
 use Rattle.region_tree.specs.declared.needs.Need.{Need}
 use Rattle.region_tree.specs.declared.needs.Needs.{Needs}
 use Rattle.region_tree.specs.declared.tree.OpNumber.{OpNumber}
 use Rattle.dependence_graph.specs.Entries.{Knot}
-use Rattle.dependence_graph.specs.Graphs.{Waits, ended, issued, issued_one, knot_on, with_knots}
+use Rattle.dependence_graph.specs.Graphs.{Waits, covered_each, ended, issued, issued_each, issued_one, knot_on, with_knots}
 use Rattle.dependence_graph.specs.Knots.{give_up, give_up_each, given_up, knot_at, no_knot, number, same_stage, some_failed, with_stage}
 use Rattle.dependence_graph.specs.declared.stage.How.{How}
 use Rattle.dependence_graph.specs.declared.stage.How.TheVariants as how
@@ -28,7 +28,7 @@ use Rattle.board_terms.specs.Closings.{closed_up, may_close, over, up_from}
 use Rattle.board_terms.specs.Stages.{is_over, stage_of}
 use Rattle.board_terms.specs.States.{State, called_by, no_operation, operation_at}
 use Rattle.board_trees.proofs.Settled.{activity_open, wait_open}
-use Rattle.closed_trees.proofs.Known.{contains_cases, contains_first, contains_later}
+use Rattle.changed_trees.proofs.Contained.{contains_cases, contains_first, contains_later, none_in}
 
 -- ---- operations
 
@@ -102,14 +102,24 @@ over_is knot.Done w a = refl
 over_is knot.Failed w a = refl
 over_is knot.Dropped w a = refl
 
--- all are there still; an entry was there, or is that of a new one; and what is over stays so, but for one
+-- an operation is listed there, as issued with these needs
+pub record IsFrom (ls : List Listed) (x : Listed) : Type 0 where
+  pub one : Listed
+  pub there : Contains ls one
+  pub op_is : x.op ≡ one.op
+  pub issued : x.issued ≡ one.issued
+
+-- all are there still; an entry was there, maybe with more needs open, or is that of a new one; and what is over stays so, but for one
 pub record WaitsStay (k : ℕ) (g h : Waits) : Type 0 where
   pub size : length g.knots ≤ length h.knots
-  pub entries : (x : Listed) → Contains h.listing x → Contains g.listing x ⊎ (length g.knots ≤ x.op.0)
+  pub entries : (x : Listed) → Contains h.listing x → IsFrom g.listing x ⊎ (length g.knots ≤ x.op.0)
   pub past : (j : ℕ) → ¬ (j ≡ k) → j < length g.knots → is_past (knot_at g.knots j).stage ≡ true → is_past (knot_at h.knots j).stage ≡ true
 
+from_itself : (ls : List Listed) (x : Listed) → Contains ls x → IsFrom ls x
+from_itself ls x c = record { one = x; there = c; op_is = refl; issued = refl }
+
 pub waits_itself : (k : ℕ) (g : Waits) → WaitsStay k g g
-waits_itself k g = record { size = omega arith; entries = λ x c. inl c; past = λ j n l e. e }
+waits_itself k g = record { size = omega arith; entries = λ x c. inl (from_itself g.listing x c); past = λ j n l e. e }
 
 pub waits_on : (k : ℕ) (g h i : Waits) → WaitsStay k g h → WaitsStay k h i → WaitsStay k g i
 waits_on k g h i a b =
@@ -117,14 +127,24 @@ waits_on k g h i a b =
     let more = b.size in
     record {
       size = omega (arith, size, more);
-      entries = λ x c. ⊎_elim (λ d. a.entries x d) (λ l. inr (omega (arith, l, size))) (b.entries x c);
+      entries = λ x c. ⊎_elim
+          (λ d. ⊎_elim
+          (λ e. inl (record {
+            one = e.one;
+            there = e.there;
+            op_is = d.op_is ∙ e.op_is;
+            issued = d.issued ∙ e.issued;
+          }))
+          (λ l. inr (subst (λ (o : OpNumber). length g.knots ≤ o.0) (sym d.op_is) l))
+          (a.entries d.one d.there))
+          (λ l. inr (omega (arith, l, size))) (b.entries x c);
       past = λ j n l e. b.past j n (omega (arith, l, size)) (a.past j n l e);
     }
 
 pub waits_set : (g : Waits) (k : ℕ) (x : Knot) → WaitsStay k g (with_knots g (set g.knots k x))
 waits_set g k x = record {
   size = omega (arith, length-set g.knots k x);
-  entries = λ y c. inl c;
+  entries = λ y c. inl (from_itself g.listing y c);
   past = λ j n l e. subst (λ (z : Knot). is_past z.stage ≡ true) (sym (get_or-set_other g.knots k j x no_knot n)) e;
 }
 
@@ -145,16 +165,39 @@ one_issued k t g parent needs =
     let last : length g.knots ≤ length g.knots = omega arith in
     record {
       size = omega (arith, length-append g.knots (new ∷ []));
-      entries = λ x c. ⊎_elim (λ e. inr (subst (λ (y : Listed). length g.knots ≤ y.op.0) e last)) (λ d. inl d)
+      entries = λ x c. ⊎_elim (λ e. inr (subst (λ (y : Listed). length g.knots ≤ y.op.0) e last)) (λ d. inl (from_itself g.listing x d))
           (inserted_entry (listed t parent (number (length g.knots)) needs) g.listing x c);
       past = λ j n l e. subst (λ (z : Knot). is_past z.stage ≡ true) (sym (get_or_append_left g.knots (new ∷ []) no_knot j l)) e;
     }
 
-pub all_issued : (k : ℕ) (t : RegionTree) (g : Waits) (parent : OpNumber) (ns : List Needs) → WaitsStay k g (issued t g parent ns)
-all_issued k t g parent [] = waits_itself k g
-all_issued k t g parent (n ∷ ns) =
+each_issued : (k : ℕ) (t : RegionTree) (g : Waits) (parent : OpNumber) (ns : List Needs) → WaitsStay k g (issued_each t g parent ns)
+each_issued k t g parent [] = waits_itself k g
+each_issued k t g parent (n ∷ ns) =
     let next = issued_one t g parent n.items in
-    waits_on k g next (issued t next parent ns) (one_issued k t g parent n.items) (all_issued k t next parent ns)
+    waits_on k g next (issued_each t next parent ns) (one_issued k t g parent n.items) (each_issued k t next parent ns)
+
+uncovered_from : (context n : ℕ) (needs : List Need) (ls : List Listed) (x : Listed) → Contains (all_uncovered context n needs ls) x → IsFrom ls x
+uncovered_from context n needs [] x c = absurd (none_in x c)
+uncovered_from context n needs (l ∷ ls) x c = ⊎_elim
+    (λ e. subst (IsFrom (l ∷ ls)) e (chosen ((l.context.0 == context) && nat_lt l.op.0 n)))
+    (λ m. let f = uncovered_from context n needs ls x m in record { one = f.one; there = contains_later l ls f.one f.there; op_is = f.op_is; issued = f.issued })
+    (contains_cases (uncovered context n needs l) (all_uncovered context n needs ls) x c)
+  where
+    chosen : (b : Bool) → IsFrom (l ∷ ls) (cond b (record l { needs = filter (λ (m : PlacedNeed). not (is_covered needs m)) l.needs }) l)
+    chosen true = record { one = l; there = contains_first l ls; op_is = refl; issued = refl }
+    chosen false = from_itself (l ∷ ls) l (contains_first l ls)
+
+each_covered : (k context : ℕ) (ns : List Needs) (g : Waits) (n : ℕ) → WaitsStay k g (covered_each context ns g n)
+each_covered k context [] g n = waits_itself k g
+each_covered k context (m ∷ ns) g n =
+    let next : Waits = record { knots = g.knots; listing = all_uncovered context n m.items g.listing } in
+    waits_on k g next (covered_each context ns next (suc n))
+    (record { size = omega arith; entries = λ x c. inl (uncovered_from context n m.items g.listing x c); past = λ j d l e. e })
+    (each_covered k context ns next (suc n))
+
+pub all_issued : (k : ℕ) (t : RegionTree) (g : Waits) (parent : OpNumber) (ns : List Needs) → WaitsStay k g (issued t g parent ns)
+all_issued k t g parent ns = waits_on k g (issued_each t g parent ns) (issued t g parent ns) (each_issued k t g parent ns)
+    (each_covered k parent.0 ns (issued_each t g parent ns) (length g.knots))
 
 -- ---- ends
 
@@ -214,7 +257,7 @@ at_stage ks k st = record { parent = (knot_at ks k).parent; on = (knot_at ks k).
 pub waits_ended : (k : ℕ) (g : Waits) (j : ℕ) (h : How) → WaitsStay k g (ended g j h)
 waits_ended k g j how.Done = record {
   size = omega (arith, length-set g.knots j (at_stage g.knots j knot.Done));
-  entries = λ x c. inl (filtered_entry (λ l. not (is_op j l)) g.listing x c);
+  entries = λ x c. inl (from_itself g.listing x (filtered_entry (λ l. not (is_op j l)) g.listing x c));
   past = λ i n l e. past_ended g.knots j (at_stage g.knots j knot.Done) refl i e;
 }
 waits_ended k g j how.Failed =
@@ -222,7 +265,7 @@ waits_ended k g j how.Failed =
     let size = (all_give_up failed).follows.size in
     record {
       size = omega (arith, size, length-set g.knots j (at_stage g.knots j knot.Failed));
-      entries = λ x c. inl c;
+      entries = λ x c. inl (from_itself g.listing x c);
       past = λ i n l e. past_all failed i (past_ended g.knots j (at_stage g.knots j knot.Failed) refl i e);
     }
 

@@ -7,7 +7,7 @@ use Rattle.std.proofs.lemmas.List.Elements.{All-cons, All-contains, All-head, Al
 use Rattle.std.proofs.lemmas.List.Folds.{list_any-append}
 use Rattle.lane_kernels.specs.Modes.{in_conflict}
 use Rattle.plain_values.specs.Points.{meets}
-use Rattle.region_finder.specs.Listings.{Listed, needs_in}
+use Rattle.region_finder.specs.Listings.{Listed}
 use Rattle.region_tree.specs.Needs.{requirements_of}
 use Rattle.region_tree.specs.Requirements.{Requirement, conflict, interfere}
 use Rattle.region_tree.specs.declared.tree.RootId.{RootId}
@@ -79,10 +79,10 @@ module _ (job : Job) (s : State) (b : Board (regent_ground (spaces_of job.code))
   IsAboveOf k t = (r : RootId) × IsOwned job s h.who b.ways k r × (r.0 ≡ t.root)
 
   pub needs_above : (x : Listed) → Contains s.waits.listing x → is_over (stage_at s x.op.0) ≡ false → (g : Placed job s b h x.op.0) → ¬ (x.op.0 ≡ 0) →
-      All (IsAboveOf x.op.0) (requirements_of s.tree (needs_in x))
-  needs_above x c e g called = ⊎_elim (λ q. absurd (called q)) (λ q. weaker (requirements_of s.tree (needs_in x))
-      (subst (λ (y : Listed). All (IsThere g.there.above g.there.made) (requirements_of s.tree (needs_in y))) (entry_here job s b h x c q.0 g.there.above g.there.node q.1)
-      (all_there g.there.above g.there.made (pointed (needs_issued job g.there.node)) (requirements_of s.tree (needs_in q.1.entry)) q.1.needs)))
+      All (IsAboveOf x.op.0) (requirements_of s.tree x.issued)
+  needs_above x c e g called = ⊎_elim (λ q. absurd (called q)) (λ q. weaker (requirements_of s.tree x.issued)
+      (subst (λ (y : Listed). All (IsThere g.there.above g.there.made) (requirements_of s.tree y.issued)) (entry_here job s b h x c q.0 g.there.above g.there.node q.1 q.2)
+      (all_there g.there.above g.there.made (pointed (needs_issued job g.there.node)) (requirements_of s.tree q.2.entry.issued) q.2.issued)))
       (entry_of job s b h x.op.0 (still_listed job s b h x.op.0 e) g)
     where
       weaker : (ts : List Requirement) → All (IsThere g.there.above g.there.made) ts → All (IsAboveOf x.op.0) ts
@@ -106,14 +106,14 @@ module _ (job : Job) (s : State) (b : Board (regent_ground (spaces_of job.code))
   both_own j k below a t (r, c, e) (q, d, f) same = below (0, sym (owner j k r q c d (sym e ∙ same ∙ f)))
 
   module _ (x y : Listed) (xy : ¬ IsAbove s x.op.0 y.op.0) (yx : ¬ IsAbove s y.op.0 x.op.0)
-      (above_x : All (IsAboveOf x.op.0) (requirements_of s.tree (needs_in x))) (above_y : All (IsAboveOf y.op.0) (requirements_of s.tree (needs_in y)))
-      (apart : interfere (requirements_of s.tree (needs_in x)) (requirements_of s.tree (needs_in y)) ≡ false)
+      (above_x : All (IsAboveOf x.op.0) (requirements_of s.tree x.issued)) (above_y : All (IsAboveOf y.op.0) (requirements_of s.tree y.issued))
+      (apart : interfere (requirements_of s.tree x.issued) (requirements_of s.tree y.issued) ≡ false)
       (first second : List Requirement) (of_first : All (IsOfOwn s x.op.0) first) (of_second : All (IsOfOwn s y.op.0) second) where
     abbrev R : List Requirement
-    R = requirements_of s.tree (needs_in x)
+    R = requirements_of s.tree x.issued
 
     abbrev S : List Requirement
-    S = requirements_of s.tree (needs_in y)
+    S = requirements_of s.tree y.issued
 
     pub with_own_apart : interfere (R ++ first) (S ++ second) ≡ false
     with_own_apart = more_apart R first (S ++ second)

@@ -7,7 +7,7 @@ use Rattle.std.proofs.lemmas.List.{map-append, take-append-drop}
 use Rattle.std.proofs.lemmas.List.Elements.{All-append, All-cons, All-contains, All-head, All-nil, All-tail}
 use Rattle.std.proofs.Math.Bool.{or-false}
 use Rattle.lane_kernels.specs.declared.numbers.Mode.{Mode as FieldMode}
-use Rattle.region_finder.specs.Listings.{Listed, needs_in}
+use Rattle.region_finder.specs.Listings.{Listed}
 use Rattle.region_tree.specs.Needs.{requirements_of}
 use Rattle.region_tree.specs.Pieces.{Held}
 use Rattle.region_tree.specs.Requirements.{Requirement, conflict, interfere, is_at, is_of, join_from}
@@ -162,7 +162,7 @@ module _ (job : Job) where
       made = All-append (λ (r : RootId). r.0 < length s.roots) g.there.above (operation_at s k).frame.own g.there.made (h.own_made k)
 
       abbrev Goal : List Part → Type 0
-      Goal qs = interfere (flat_map held_in qs) (requirements_of s.tree (needs_in x)) ≡ false
+      Goal qs = interfere (flat_map held_in qs) (requirements_of s.tree x.issued) ≡ false
 
       place : (c : ℕ) × (slice_get (operation_at s k).children c ≡ Some x.op)
       place = place_of job s h.who b.ways (operation_at s k).children x.op is_child
@@ -170,13 +170,13 @@ module _ (job : Job) where
       module _ (D N : List Requirement) (i : ℕ) (f : board.Frame) (ps : List (Element G)) (st : BoardStage G) (is : Items G)
           (shows : Shows job s h.who b.ways g.there.at k g.there.earlier g.there.above (op D N i f ps st is)) (found : find G g.way b.state.tree ≡ Some (op D N i f ps st is)) where
         kid : ChildAt job s h.who b.ways k place.0 x.op.0 roots is
-        kid = child_at job s h.who b.ways place.0 g.there.at k 0 [] roots (operation_at s k).children is x.op.0 shows.1 place.1
+        kid = child_at job s h.who b.ways place.0 g.there.at k 0 [] roots (operation_at s k).children is x.op.0 shows.1 shows.0.listed place.1
 
         abbrev E : List Requirement
         E = needs_of G kid.node
 
-        kid_needs : pointed E ≡ map (requirement_named to) (requirements_of s.tree (needs_in x))
-        kid_needs = entry_needs job s b h x listed k roots kid.node made (kid.child.listed (still_listed job s b h x.op.0 still))
+        kid_needs : pointed E ≡ map (requirement_named to) (requirements_of s.tree x.issued)
+        kid_needs = entry_needs job s b h x listed k roots kid.node kid.later made (kid.listed (still_listed job s b h x.op.0 still))
 
         kid_open : tree_over G (tree_stage G kid.node) ≡ false
         kid_open = sym (node_told job s h.who b.ways kid.at x.op.0 kid.earlier roots kid.node kid.shows).is_over ∙ still
@@ -196,7 +196,7 @@ module _ (job : Job) where
                 (narrower ys (All-tail P y ys q))
 
         clear_goal : (qs : List Part) → AllClear roots made E qs → Goal qs
-        clear_goal qs c = sym (interfere_to to (same_root (named to) (naming job s b h roots made).one) (flat_map held_in qs) (requirements_of s.tree (needs_in x)))
+        clear_goal qs c = sym (interfere_to to (same_root (named to) (naming job s b h roots made).one) (flat_map held_in qs) (requirements_of s.tree x.issued))
             ∙ ap (interfere (map (moved to) (flat_map held_in qs))) (sym kid_needs)
             ∙ clear_apart job.code (pointed E) to qs c
 
@@ -234,5 +234,5 @@ module _ (job : Job) where
       by_node (op D N i f ps (over e) is) r found = all_are_over D N i f ps (over e) is r found r.0.children_are
       by_node (op D N i f ps dropped is) r found = all_are_over D N i f ps dropped is r found (ap (all_over s) r.0.children_are)
 
-      pub held_apart : interfere (flat_map held_in (parts_held (operation_at s k))) (requirements_of s.tree (needs_in x)) ≡ false
+      pub held_apart : interfere (flat_map held_in (parts_held (operation_at s k))) (requirements_of s.tree x.issued) ≡ false
       held_apart = by_node g.there.node g.there.shows g.there.found

@@ -4,8 +4,8 @@ use Rattle.std.specs.List.{Contains}
 use Rattle.std.proofs.lemmas.Bool.{cases_lt, false≢true}
 use Rattle.std.proofs.lemmas.List.{get_or_past}
 use Rattle.std.proofs.lemmas.List.Elements.{All-nil}
-use Rattle.region_finder.specs.Listings.{Listed, needs_in}
-use Rattle.region_tree.specs.Needs.{requirements_of}
+use Rattle.region_finder.specs.Listings.{Listed}
+use Rattle.region_tree.specs.Needs.{AreNeeds, requirements_of}
 use Rattle.region_tree.specs.declared.tree.OpNumber.{OpNumber}
 use Rattle.region_tree.specs.declared.tree.RootId.{RootId}
 use Rattle.dependence_graph.specs.Entries.{Knot}
@@ -30,7 +30,7 @@ use Rattle.board_trees.specs.Names.{IsNaming, pointed, requirement_named}
 use Rattle.board_trees.specs.Shows.{IsListed, Leads, Shows, ShowsBoard, needs_issued}
 use Rattle.board_trees.specs.Waits.{Sibling, has_ended}
 use Rattle.board_trees.proofs.Named.{is_naming, named_all}
-use Rattle.board_trees.proofs.Settled.{stage_there}
+use Rattle.board_trees.proofs.Told.{stage_there}
 use Rattle.changed_trees.proofs.Listed.{way_found}
 use Rattle.journal_progress.proofs.Callers.{IsOwned, Reached, WereMade, child_at, place_of, reached}
 use Rattle.journal_progress.proofs.Listings.{one_entry}
@@ -93,7 +93,7 @@ module _ (job : Job) where
         by_node : (n : Node G) → Shows job s h.who b.ways at.there.at k at.there.earlier at.there.above n → (k < o.0) × (o.0 < length s.operations)
         by_node (op D N i f ps st is) r =
             let place = place_of job s h.who b.ways (operation_at s k).children o c in
-            let kid = child_at job s h.who b.ways place.0 at.there.at k 0 [] (at.there.above ++ (operation_at s k).frame.own) (operation_at s k).children is o.0 r.1 place.1 in
+            let kid = child_at job s h.who b.ways place.0 at.there.at k 0 [] (at.there.above ++ (operation_at s k).frame.own) (operation_at s k).children is o.0 r.1 r.0.listed place.1 in
             (kid.child.later, shown_within kid.at o.0 kid.earlier (at.there.above ++ (operation_at s k).frame.own) kid.node kid.shows)
 
     -- what isn't over was issued
@@ -107,11 +107,11 @@ module _ (job : Job) where
     still_listed k e = ap is_done (stage_there s.waits.knots k (subst (λ n. k < n) (sym h.knots) (is_there k e)))
         ∙ unended (knot_at s.waits.knots k).stage (operation_at s k).wait (operation_at s k).activity e
 
-    pub entry_of : (k : ℕ) → has_ended s.waits.knots k ≡ false → (g : Placed k) → (k ≡ 0) ⊎ ((j : ℕ) × IsListed job s h.who b.ways j k g.there.above (needs_issued job g.there.node))
-    entry_of k e g = ⊎_elim inl (λ q. inr (q.0, q.1.listed e)) g.there.called
+    pub entry_of : (k : ℕ) → has_ended s.waits.knots k ≡ false → (g : Placed k) → (k ≡ 0) ⊎ ((j : ℕ) × (later : List Sibling) × IsListed job s h.who g.there.above j k (needs_issued job g.there.node) later)
+    entry_of k e g = ⊎_elim inl (λ q. inr (q.0, q.1, q.3 e)) g.there.called
 
     pub is_listed : (k : ℕ) → is_over (stage_at s k) ≡ false → (k ≡ 0) ⊎ ((x : Listed) × Contains s.waits.listing x × (x.op ≡ number k))
-    is_listed k e = ⊎_elim inl (λ q. inr (q.1.entry, q.1.there, q.1.op_is)) (entry_of k (still_listed k e) (placed k (is_there k e)))
+    is_listed k e = ⊎_elim inl (λ q. inr (q.2.entry, q.2.there, q.2.op_is)) (entry_of k (still_listed k e) (placed k (is_there k e)))
 
     abbrev pub name : ℕ → ℕ
     name = named_all s.roots h.who (made_in G (machine_of job) b.state.tree) h.made 0
@@ -120,15 +120,19 @@ module _ (job : Job) where
     naming roots made = is_naming s.roots h.who (made_in G (machine_of job) b.state.tree) h.made 0 roots made
 
     -- it has no other entry
-    pub entry_here : (x : Listed) → Contains s.waits.listing x → (j : ℕ) (roots : List RootId) (n : Node G) (l : IsListed job s h.who b.ways j x.op.0 roots (needs_issued job n)) → l.entry ≡ x
-    entry_here x c j roots n l = one_entry s.waits.listing (λ k. not (has_ended s.waits.knots k)) (length s.operations - 1) h.listed l.entry x l.there c (ap (λ (k : OpNumber). k.0) l.op_is)
+    pub entry_here : (x : Listed) → Contains s.waits.listing x → (j : ℕ) (roots : List RootId) (n : Node G) (later : List Sibling) (l : IsListed job s h.who roots j x.op.0 (needs_issued job n) later) → l.entry ≡ x
+    entry_here x c j roots n later l = one_entry s.waits.listing (λ k. not (has_ended s.waits.knots k)) (length s.operations - 1) h.listed l.entry x l.there c (ap (λ (k : OpNumber). k.0) l.op_is)
 
-    -- the entry of an operation has the needs with which it was issued
-    pub entry_needs : (x : Listed) → Contains s.waits.listing x → (j : ℕ) (roots : List RootId) (n : Node G) → WereMade job s h.who b.ways roots →
-        IsListed job s h.who b.ways j x.op.0 roots (needs_issued job n) → pointed (needs_of G n) ≡ map (requirement_named name) (requirements_of s.tree (needs_in x))
-    entry_needs x c j roots n made l = ap pointed (sym (issued_is n)) ∙ l.needs name (naming roots made)
-        ∙ ap (λ (y : Listed). map (requirement_named name) (requirements_of s.tree (needs_in y))) (entry_here x c j roots n l)
+    -- the entry of an operation has the needs with which it was issued, which are of regions
+    pub entry_needs : (x : Listed) → Contains s.waits.listing x → (j : ℕ) (roots : List RootId) (n : Node G) (later : List Sibling) → WereMade job s h.who b.ways roots →
+        IsListed job s h.who roots j x.op.0 (needs_issued job n) later → pointed (needs_of G n) ≡ map (requirement_named name) (requirements_of s.tree x.issued)
+    entry_needs x c j roots n later made l = ap pointed (sym (issued_is n)) ∙ l.issued name (naming roots made)
+        ∙ ap (λ (y : Listed). map (requirement_named name) (requirements_of s.tree y.issued)) (entry_here x c j roots n later l)
 
     pub listed_needs : (x : Listed) → Contains s.waits.listing x → is_over (stage_at s x.op.0) ≡ false → (g : Placed x.op.0) → ¬ (x.op.0 ≡ 0) →
-        pointed (needs_of G g.there.node) ≡ map (requirement_named name) (requirements_of s.tree (needs_in x))
-    listed_needs x c e g called = ⊎_elim (λ q. absurd (called q)) (λ q. entry_needs x c q.0 g.there.above g.there.node g.there.made q.1) (entry_of x.op.0 (still_listed x.op.0 e) g)
+        pointed (needs_of G g.there.node) ≡ map (requirement_named name) (requirements_of s.tree x.issued)
+    listed_needs x c e g called = ⊎_elim (λ q. absurd (called q)) (λ q. entry_needs x c q.0 g.there.above g.there.node q.1 g.there.made q.2) (entry_of x.op.0 (still_listed x.op.0 e) g)
+
+    pub listed_placed : (x : Listed) → Contains s.waits.listing x → is_over (stage_at s x.op.0) ≡ false → (g : Placed x.op.0) → ¬ (x.op.0 ≡ 0) → AreNeeds s.tree x.issued
+    listed_placed x c e g called = ⊎_elim (λ q. absurd (called q))
+        (λ q. subst (λ (y : Listed). AreNeeds s.tree y.issued) (entry_here x c q.0 g.there.above g.there.node q.1 q.2) q.2.placed) (entry_of x.op.0 (still_listed x.op.0 e) g)

@@ -3,7 +3,7 @@ use Rattle.std.proofs.Common.{◌≡◌, ◌++◌, ◌∙◌, ⊎_elim, ℕ, Lis
 use Rattle.std.specs.Prelude.{All}
 use Rattle.std.specs.List.{Contains}
 use Rattle.std.proofs.lemmas.Bool.{and_from, false≢true}
-use Rattle.region_finder.specs.Listings.{Listed, needs_in}
+use Rattle.region_finder.specs.Listings.{Listed}
 use Rattle.region_tree.specs.Needs.{requirements_of}
 use Rattle.region_tree.specs.Requirements.{Requirement, interfere}
 use Rattle.region_tree.specs.declared.needs.Need.{Need}
@@ -112,7 +112,7 @@ module _ (job : Job) where
           (apart_turned G (G.at (needs_now G v.there.node) l) (G.at (needs_of G w.there.node) l) later) (issued v.way v.there.node v.there.found l))
 
       pub none_interfere : (x y : Listed) → Contains s.waits.listing x → Contains s.waits.listing y → is_in_progress (stage_at s x.op.0) ≡ true → is_in_progress (stage_at s y.op.0) ≡ true →
-          ¬ IsAbove s x.op.0 y.op.0 → ¬ IsAbove s y.op.0 x.op.0 → interfere (requirements_of s.tree (needs_in x)) (requirements_of s.tree (needs_in y)) ≡ false
+          ¬ IsAbove s x.op.0 y.op.0 → ¬ IsAbove s y.op.0 x.op.0 → interfere (requirements_of s.tree x.issued) (requirements_of s.tree y.issued) ≡ false
       none_interfere x y c d ex ey xy yx =
           let ox = not_over (stage_at s x.op.0) ex in
           let oy = not_over (stage_at s y.op.0) ey in
@@ -121,7 +121,7 @@ module _ (job : Job) where
           let first_needs = listed_needs job s b h x c ox v (λ q. xy (subst (λ z. IsAbove s z y.op.0) (sym q) (main_above y.op.0 w))) in
           let second_needs = listed_needs job s b h y d oy w (λ q. yx (subst (λ z. IsAbove s z x.op.0) (sym q) (main_above x.op.0 v))) in
           let to = name job s b h in
-          sym (interfere_to to (same_root (named to) (naming job s b h v.there.above v.there.made).one) (requirements_of s.tree (needs_in x)) (requirements_of s.tree (needs_in y)))
+          sym (interfere_to to (same_root (named to) (naming job s b h v.there.above v.there.made).one) (requirements_of s.tree x.issued) (requirements_of s.tree y.issued))
           ∙ (λ i. interfere (sym first_needs i) (sym second_needs i)) ∙ interfere_pointed (needs_of G v.there.node) (needs_of G w.there.node)
           ∙ apart_needs (spaces_of job.code) (needs_of G v.there.node) (needs_of G w.there.node) (issued_apart x.op.0 y.op.0 v w ex ey xy yx)
 
@@ -129,7 +129,7 @@ module _ (job : Job) where
       -- with roots that they made themselves
       pub none_with_own : (x y : Listed) → Contains s.waits.listing x → Contains s.waits.listing y → is_in_progress (stage_at s x.op.0) ≡ true → is_in_progress (stage_at s y.op.0) ≡ true →
           ¬ IsAbove s x.op.0 y.op.0 → ¬ IsAbove s y.op.0 x.op.0 → (own_first own_second : List Requirement) → All (IsOfOwn s x.op.0) own_first → All (IsOfOwn s y.op.0) own_second →
-          interfere (requirements_of s.tree (needs_in x) ++ own_first) (requirements_of s.tree (needs_in y) ++ own_second) ≡ false
+          interfere (requirements_of s.tree x.issued ++ own_first) (requirements_of s.tree y.issued ++ own_second) ≡ false
       none_with_own x y c d ex ey xy yx own_first own_second f g =
           let ox = not_over (stage_at s x.op.0) ex in
           let oy = not_over (stage_at s y.op.0) ey in

@@ -4,10 +4,10 @@ use Rattle.std.specs.Prelude.{All}
 use Rattle.std.specs.List.{Contains, flat_map}
 use Rattle.std.proofs.lemmas.Bool.{cases_Bool, false≢true}
 use Rattle.std.proofs.lemmas.List.{get_or-set_same}
-use Rattle.std.proofs.lemmas.List.Elements.{All-head, All-tail}
+use Rattle.std.proofs.lemmas.List.Elements.{All-head, All-tail, All-weaker}
 use Rattle.std.proofs.lemmas.Option.{none-some, same_Some}
-use Rattle.region_finder.specs.Listings.{Listed, needs_in}
-use Rattle.region_tree.specs.Needs.{requirements_of}
+use Rattle.region_finder.specs.Listings.{Listed}
+use Rattle.region_tree.specs.Needs.{IsNeed, requirements_of}
 use Rattle.region_tree.specs.Pieces.{Held}
 use Rattle.region_tree.specs.Requirements.{interfere}
 use Rattle.region_tree.specs.Trees.{RegionTree}
@@ -26,7 +26,6 @@ use Rattle.machine_terms.proofs.Kept.{stop_fixed}
 use Rattle.machine_terms.proofs.KeptParts.{bare, bare_pieces}
 use Rattle.run_journal.specs.declared.entry.StepKind.{StepKind}
 use Rattle.run_journal.specs.declared.entry.StepKind.TheVariants.{Back, Claim, Copy, Give}
-use Rattle.board_rules.specs.Boards.{needs_of}
 use Rattle.board_rules.specs.Ground.{Ground}
 use Rattle.board_rules.specs.NumberedBoards.{Board}
 use Rattle.regent_boards.specs.RegentMachine.{regent_ground}
@@ -44,12 +43,11 @@ use Rattle.board_terms.specs.Stages.{by_activity, by_wait, is_closing, is_over, 
 use Rattle.board_terms.specs.States.{State, doing, no_operation, operation_at}
 use Rattle.board_trees.specs.Shows.{ShowsBoard}
 use Rattle.board_trees.proofs.Kept.{by_number}
-use Rattle.changed_trees.proofs.Kept.{has_points, needs_there, pointed_all}
 use Rattle.claimed_trees.proofs.Back.{IsClaimed, claimed_within, has_begun}
 use Rattle.journal_progress.specs.Parts.{held_for, held_in, parts_held, parts_with}
 use Rattle.journal_progress.proofs.Given.{give_stays}
-use Rattle.journal_progress.proofs.Kept.{Kept, PointsStay, is_past, others_set, over_is, points_itself, waits_itself, waits_set}
-use Rattle.journal_progress.proofs.Places.{Placed, issued_child, listed_needs, name, placed}
+use Rattle.journal_progress.proofs.Kept.{IsFrom, Kept, PointsStay, is_past, others_set, over_is, points_itself, waits_itself, waits_set}
+use Rattle.journal_progress.proofs.Places.{Placed, issued_child, listed_placed, placed}
 use Rattle.journal_progress.proofs.Waited.{idle_is, there as waited_there, within as waited_within}
 
 -- ---- parts that a segment leaves are held as before
@@ -101,7 +99,7 @@ wait_unclosing (wait.Child n) = refl
 -- what an operation holds is apart from what its children need that aren't over
 abbrev pub HoldsApart : State → ℕ → Type 0
 HoldsApart s k = (x : Listed) → Contains s.waits.listing x → Contains (operation_at s k).children x.op → is_over (stage_at s x.op.0) ≡ false →
-    interfere (flat_map held_in (parts_held (operation_at s k))) (requirements_of s.tree (needs_in x)) ≡ false
+    interfere (flat_map held_in (parts_held (operation_at s k))) (requirements_of s.tree x.issued) ≡ false
 
 abbrev pub AllHoldApart : State → Type 0
 AllHoldApart s = (j : ℕ) → HoldsApart s j
@@ -130,16 +128,24 @@ module _ (job : Job) (s : State) (b : Board (regent_ground (spaces_of job.code))
       stays_apart x listed child still =
           let was_child : Contains (operation_at s j).children x.op = subst (λ ks. Contains ks x.op) children child in
           let issued = issued_child job s b h j x.op was_child in
-          let later = issued.0 in
           let below = issued.1 in
           let knots = h.knots in
-          let was_listed : Contains s.waits.listing x = ⊎_elim (λ c. c) (λ l. absurd (omega (arith, l, below, knots))) (kept.2.entries x listed) in
+          let from : IsFrom s.waits.listing x = ⊎_elim (λ c. c) (λ l. absurd (omega (arith, l, below, knots))) (kept.2.entries x listed) in
           let unfinished = was_open x.op.0 (omega (arith, below, knots)) still in
-          let at : Placed job s b h x.op.0 = placed job s b h x.op.0 below in
-          let needed = listed_needs job s b h x was_listed unfinished at (λ e. omega (arith, e, later)) in
-          let same : requirements_of s.tree (needs_in x) ≡ requirements_of u.tree (needs_in x) = required_still s.tree u.tree kept.1 (needs_in x)
-          (needs_there s (name job s b h) (needs_in x) (subst (All has_points) needed (pointed_all (needs_of G at.there.node)))) in
-          (λ i. interfere (held i) (sym same i)) ∙ all j x was_listed was_child unfinished
+          ap (λ ns. interfere (flat_map held_in (parts_held (operation_at u j))) (requirements_of u.tree ns)) from.issued
+          ∙ of_entry from.one from.there (subst (λ (o : OpNumber). Contains (operation_at s j).children o) from.op_is was_child)
+          (subst (λ (o : OpNumber). is_over (stage_at s o.0) ≡ false) from.op_is unfinished)
+        where
+          of_entry : (x : Listed) → Contains s.waits.listing x → Contains (operation_at s j).children x.op → is_over (stage_at s x.op.0) ≡ false →
+              interfere (flat_map held_in (parts_held (operation_at u j))) (requirements_of u.tree x.issued) ≡ false
+          of_entry x was_listed was_child unfinished =
+              let issued = issued_child job s b h j x.op was_child in
+              let later = issued.0 in
+              let at : Placed job s b h x.op.0 = placed job s b h x.op.0 issued.1 in
+              let are = listed_placed job s b h x was_listed unfinished at (λ e. omega (arith, e, later)) in
+              let same : requirements_of s.tree x.issued ≡ requirements_of u.tree x.issued = required_still s.tree u.tree kept.1 x.issued
+              (All-weaker (IsNeed s.tree) (λ (n : Need). n.node.0 < length s.tree.nodes) (λ n is. is.region.there) x.issued are) in
+              (λ i. interfere (held i) (sym same i)) ∙ all j x was_listed was_child unfinished
 
     others_apart : (j : ℕ) → ¬ (j ≡ k) → HoldsApart u j
     others_apart j n = ⊎_elim
@@ -219,7 +225,7 @@ module _ (job : Job) (s : State) (b : Board (regent_ground (spaces_of job.code))
         let u = given_after job.code job.turns s k (segment before) in
         let stays = give_stays job s k (segment before) in
         with_own u claimed_goes stays.0 (⊎_elim
-        (λ e x listed child still. ap (λ qs. interfere (flat_map held_in qs) (requirements_of u.tree (needs_in x))) e)
+        (λ e x listed child still. ap (λ qs. interfere (flat_map held_in qs) (requirements_of u.tree x.issued)) e)
         (λ e. stays_apart u claimed_goes stays.0 k e.1
         (ap (flat_map held_in) e.0 ∙ segment_holds before ∙ ap (λ a. flat_map held_in (parts_with (operation_at s k).parts a)) (sym is))) stays.1)
 

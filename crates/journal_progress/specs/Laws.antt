@@ -1,7 +1,7 @@
 -- Operations of a board in progress don't interfere, and that is read off the table.
 use Rattle.std.specs.Prelude.{◌≡◌, ◌⊎◌, ◌++◌, ℕ, All, zero, suc, List, Some, false, true}
 use Rattle.std.specs.List.{Contains}
-use Rattle.region_finder.specs.Listings.{Listed, needs_in}
+use Rattle.region_finder.specs.Listings.{Listed}
 use Rattle.region_tree.specs.Needs.{requirements_of}
 use Rattle.region_tree.specs.Requirements.{Requirement, interfere}
 use Rattle.region_tree.specs.declared.tree.RootId.{RootId}
@@ -28,13 +28,13 @@ UnfinishedAreListed = (job : Job) (journal : List Entry) (s : State) → replay 
     (k : ℕ) → is_over (stage_at s k) ≡ false → (k ≡ 0) ⊎ ((x : Listed) × Contains s.waits.listing x × (x.op ≡ number k))
 
 -- So of every job, too: two operations in progress, neither the other's ancestor, don't interfere by the needs with which
--- they were issued, which the graph lists.
+-- they were issued, all of which the graph keeps.
 abbrev pub NoneInProgressInterfere : Type 0
 NoneInProgressInterfere = (job : Job) (journal : List Entry) (s : State) → replay job journal ≡ Some s →
     (x y : Listed) → Contains s.waits.listing x → Contains s.waits.listing y →
     is_in_progress (stage_at s x.op.0) ≡ true → is_in_progress (stage_at s y.op.0) ≡ true →
     ¬ IsAbove s x.op.0 y.op.0 → ¬ IsAbove s y.op.0 x.op.0 →
-    interfere (requirements_of s.tree (needs_in x)) (requirements_of s.tree (needs_in y)) ≡ false
+    interfere (requirements_of s.tree x.issued) (requirements_of s.tree y.issued) ≡ false
 
 -- a need of a root that the operation made itself
 abbrev pub IsOfOwn : State → ℕ → Requirement → Type 0
@@ -47,4 +47,4 @@ OwnRootsAreApart = (job : Job) (journal : List Entry) (s : State) → replay job
     is_in_progress (stage_at s x.op.0) ≡ true → is_in_progress (stage_at s y.op.0) ≡ true →
     ¬ IsAbove s x.op.0 y.op.0 → ¬ IsAbove s y.op.0 x.op.0 →
     (first second : List Requirement) → All (IsOfOwn s x.op.0) first → All (IsOfOwn s y.op.0) second →
-    interfere (requirements_of s.tree (needs_in x) ++ first) (requirements_of s.tree (needs_in y) ++ second) ≡ false
+    interfere (requirements_of s.tree x.issued ++ first) (requirements_of s.tree y.issued ++ second) ≡ false

@@ -1,7 +1,7 @@
 -- Parts of operations in progress: what an operation holds is its own while its children run, and what it is filled with stays.
 use Rattle.std.specs.Prelude.{◌≡◌, ◌++◌, ℕ, List, Some, false, map}
 use Rattle.std.specs.List.{Contains, flat_map}
-use Rattle.region_finder.specs.Listings.{Listed, needs_in}
+use Rattle.region_finder.specs.Listings.{Listed}
 use Rattle.region_tree.specs.Needs.{requirements_of}
 use Rattle.region_tree.specs.Pieces.{Held}
 use Rattle.region_tree.specs.Requirements.{Requirement, interfere}
@@ -36,11 +36,11 @@ abbrev pub parts_held : Operation → List Part
 parts_held o = parts_with o.parts o.activity
 
 -- Of every job, whatever steps the seats of its board make: what an operation holds, and what it is being filled with, doesn't
--- interfere with the needs of its children that aren't over.
+-- interfere with the needs with which its children that aren't over were issued.
 abbrev pub HeldPartsAreApart : Type 0
 HeldPartsAreApart = (job : Job) (journal : List Entry) (s : State) → replay job journal ≡ Some s → (k : ℕ) →
     (x : Listed) → Contains s.waits.listing x → Contains (operation_at s k).children x.op → is_over (stage_at s x.op.0) ≡ false →
-    interfere (flat_map held_in (parts_held (operation_at s k))) (requirements_of s.tree (needs_in x)) ≡ false
+    interfere (flat_map held_in (parts_held (operation_at s k))) (requirements_of s.tree x.issued) ≡ false
 
 -- And while an operation is Filling, what was moved for it so far is what would be moved now: the map's number at each element
 -- that is read or written, and the identity at each that is reduced.

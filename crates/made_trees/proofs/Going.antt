@@ -37,8 +37,8 @@ use Rattle.board_terms.specs.Stages.{is_over, stage_of}
 use Rattle.board_terms.specs.States.{State, operation_at}
 use Rattle.board_trees.specs.Frames.{IsSeen}
 use Rattle.board_trees.specs.Names.{AreMade, IsNaming, name_of}
-use Rattle.board_trees.specs.Shows.{HoldsMap, IsWithinRoot, Shows, ShowsBoard, ShowsChildren, siblings}
-use Rattle.board_trees.specs.Stages.{Stands, WaitsWell}
+use Rattle.board_trees.specs.Shows.{AreListed, HoldsMap, IsWithinRoot, Shows, ShowsBoard, ShowsChildren, siblings}
+use Rattle.board_trees.specs.Stages.{Stands, WaitsWell, was_begun}
 use Rattle.board_trees.specs.Waits.{Sibling}
 use Rattle.board_trees.proofs.Along.{not_above}
 use Rattle.board_trees.proofs.Kept.{by_number}
@@ -51,13 +51,13 @@ use Rattle.changed_trees.specs.Edits.{edited, told_at}
 use Rattle.changed_trees.specs.Given.{Opens, effects_of, given_board, left_of, makings_before, yielded_by}
 use Rattle.changed_trees.specs.Open.{Asked, IsOpen, OpenBoard, OpenRow}
 use Rattle.changed_trees.proofs.Below.{children_kept}
-use Rattle.changed_trees.proofs.Kept.{back, seen_kept, shown_match, wider_itself, wider_on}
+use Rattle.changed_trees.proofs.Kept.{back, clear_kept, listed_kept, seen_kept, shown_match, wider_itself, wider_on}
 use Rattle.changed_trees.proofs.One.{IsOngoing, knot_is, knot_within, one_changed, others, row_is}
 use Rattle.changed_trees.proofs.Walks.{OfAll, told_holds, up_alike}
 use Rattle.yielded_trees.proofs.Builder.{change, opens}
 use Rattle.yielded_trees.proofs.Found.{Here, by_out, here_at}
 use Rattle.yielded_trees.proofs.Out.{Begun, has_begun, leaves_places}
-use Rattle.yielded_trees.proofs.Trees.{many_children, paused_needs, paused_of, restop, text_count, text_made, text_said, text_shows, with_text}
+use Rattle.yielded_trees.proofs.Trees.{many_children, paused_needs, paused_of, restop, text_count, text_made, text_said, text_shows, text_siblings, with_text}
 
 module _ (job : Job) (s : State) (b : Board (regent_ground (spaces_of job.code))) (h : ShowsBoard job s b) (k : ℕ) (v : List ℕ) (at : IsAt job b.ways k v)
     (claim : Claim) (before : Before) (act : (operation_at s k).activity ≡ activity.Out claim before) (g : Frame) (goes : (segment before).frame ≡ Some g)
@@ -206,6 +206,11 @@ module _ (job : Job) (s : State) (b : Board (regent_ground (spaces_of job.code))
               (subst (λ (r : Operation). Stands job.code extents now (wide_of more) u knot.Parked r (grown N) (idle nothing)) (sym row) (refl, (refl, tt)));
           free = λ c r. absurd (never_first r);
           waits = subst (λ (c : Knot). WaitsWell job.code u.waits.knots D (grown N) earlier (siblings job (operation_at u k).children js) c.on (idle nothing)) (sym knotted_is) (refl, refl);
+          begun = λ c. clear_kept job s u h.who now b.ways b.ways (λ w. v ≡ w) changes D earlier (x.0.begun (ap was_begun begun.stage));
+          listed = subst (λ (r : Operation). AreListed job u now (wide_of more) k (siblings job r.children js)) (sym row)
+              (subst (AreListed job u now (wide_of more) k) (sym (text_siblings job o.children is a.text))
+              (listed_kept job s u h.who now b.ways b.ways (λ w. v ≡ w) changes (roots_of above) (wide_of more) (wide_roots above more wider) (under above below) k (λ e t n c. c)
+              (siblings job o.children is) x.0.listed));
         }
           where
             knotted_is : knot_at u.waits.knots k ≡ knotted

@@ -62,6 +62,7 @@ use Rattle.yielded_trees.proofs.Trees.{with_text}
 use Rattle.ended_trees.proofs.Ending.{EndsSo, ended_opens}
 use Rattle.ended_trees.proofs.Ends.{changed_again}
 use Rattle.made_trees.specs.Laws.{PartitionsOpen}
+use Rattle.made_trees.proofs.Higher.{StandsWell, stands_with_partition}
 use Rattle.made_trees.proofs.Parts.{IsWithinExtents, children_placed, children_within}
 use Rattle.made_trees.proofs.Going.{Goes, goes_open, left_alike, named_before, seen_left, u}
 
@@ -232,6 +233,10 @@ module _ (job : Job) (s : State) (b : Board (regent_ground (spaces_of job.code))
         (children_within r.root divided p placed.root s.roots divided_made.made (set_at s.tree r.node.0) divided_made.below 0 sets
         (and_parts (list_all (λ xs. list_all (has (set_at s.tree r.node.0)) xs) sets) (not disjoint || are_apart sets) sound).0)
 
+    higher : (n : ℕ) → n < length regions.nodes → StandsWell regions n
+    higher = stands_with_partition s.tree r.node.0 sets disjoint (λ n l. (h.regions n l).higher) placed.there r.points placed.points
+        (and_parts (list_all (λ xs. list_all (has (set_at s.tree r.node.0)) xs) sets) (not disjoint || are_apart sets) sound).0
+
     within_roots : (n : ℕ) → n < length regions.nodes → IsWithinRoot job regions s.roots n
     within_roots n l = ⊎_elim old new (cases_lt n p)
       where
@@ -242,6 +247,7 @@ module _ (job : Job) (s : State) (b : Board (regent_ground (spaces_of job.code))
             record {
               made = subst (λ (x : TreeNode). x.root < length s.roots) (sym same) was.made;
               below = subst (λ (x : TreeNode). All (λ p. p < (get_or s.roots x.root no_extent).count) (points_of_content x.content)) (sym same) was.below;
+              higher = higher n l;
             }
 
         new : p ≤ n → IsWithinRoot job regions s.roots n
@@ -251,6 +257,7 @@ module _ (job : Job) (s : State) (b : Board (regent_ground (spaces_of job.code))
             record {
               made = subst (λ (x : TreeNode). x.root < length s.roots) (sym found) here.made;
               below = subst (λ (x : TreeNode). All (λ p. p < (get_or s.roots x.root no_extent).count) (points_of_content x.content)) (sym found) here.below;
+              higher = higher n l;
             }
 
     table_sound : (is_here s.tree r && is_sound (set_at s.tree r.node.0) sets disjoint) ≡ true

@@ -59,6 +59,7 @@ use Rattle.changed_trees.specs.Changes.{IsAt, IsWider}
 use Rattle.changed_trees.specs.Given.{Opens, makings_before, yielded_by}
 use Rattle.yielded_trees.proofs.Out.{given_is, has_begun, own_stays}
 use Rattle.made_trees.proofs.Going.{Goes, goes_open, left_alike, named_before, seen_left, u}
+use Rattle.made_trees.proofs.Higher.{StandsWell, stands_with_root}
 use Rattle.made_trees.proofs.Roots as roots
 use Rattle.made_trees.specs.Laws.{RootsOpen}
 
@@ -276,6 +277,9 @@ module _ (job : Job) (s : State) (b : Board (regent_ground (spaces_of job.code))
   abbrev then : State
   then = u job s b h k v at claim before act g goes regions extents live now q (Rid ∷ []) own_is nodes names stay fields_stay there_extra
 
+  higher : (n : ℕ) → n < length regions.nodes → StandsWell regions n
+  higher = stands_with_root s.tree (points size) (λ n l. (h.regions n l).higher)
+
   within : (n : ℕ) → n < length regions.nodes → IsWithinRoot job regions extents n
   within n l = ⊎_elim old new (cases_lt n node)
     where
@@ -287,6 +291,7 @@ module _ (job : Job) (s : State) (b : Board (regent_ground (spaces_of job.code))
             made = subst (λ (x : TreeNode). x.root < length extents) (sym same) (omega (arith, was.made, roots.length_more s.roots h.who makings h.made space size));
             below = subst (λ (x : TreeNode). All (λ p. p < (get_or extents x.root no_extent).count) (points_of_content x.content)) (sym same)
                 (subst (λ (y : Extent). All (λ p. p < y.count) (set_at s.tree n)) (sym (roots.extent_old s.roots h.who makings h.made space size (root_at s.tree n) was.made)) was.below);
+            higher = higher n l;
           }
 
       new : node ≤ n → IsWithinRoot job regions extents n
@@ -298,6 +303,7 @@ module _ (job : Job) (s : State) (b : Board (regent_ground (spaces_of job.code))
                 (subst (λ r. All (λ p. p < (get_or extents r no_extent).count) (points size)) h.extents
                 (subst (λ (y : Extent). All (λ p. p < y.count) (points size)) (sym (roots.extent_new s.roots h.who makings h.made space size))
                 (All-weaker (λ p. p < 0 + size) (λ p. p < size) (λ p l. omega (arith, l)) (points size) (counted_below 0 size))));
+            higher = subst (StandsWell regions) here (higher n l);
           })
 
   yields : yielded_by job s k before ≡ then

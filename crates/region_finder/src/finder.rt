@@ -2,7 +2,7 @@
 
 ghost use Rattle.std.specs.Prelude.{◌≡◌, ◌≤◌, false, IfOk, List, OnErr, OnOk};
 ghost use Rattle.region_finder.specs.Listings.{AreRising, IsListingOf, Listed};
-ghost use Rattle.region_finder.specs.Listings.{earlier, has_op, inserted, listed, without};
+ghost use Rattle.region_finder.specs.Listings.{all_uncovered, earlier, has_op, inserted, listed, without};
 ghost use Rattle.region_tree.specs.Needs.{AreNeeds};
 
 use crate::paths::{Paths, Probe};
@@ -53,4 +53,12 @@ pub trait Finder {
     /// Takes an operation out of the listing, if it is there.
     fn ended(&mut self, op: OpNumber)
         ensures { listing self.new ≡ without (listing self.old) op.0 };
+
+    /// Takes out of the listing what an operation's needs cover: the needs of smaller operations of its context on
+    /// whose field one of these writes at all of their points, as users that a later exclusive one dominates leave
+    /// the epoch (Legion, SC 2012). Those operations stay in it, with the needs that are left.
+    fn cover<P: Paths>(&mut self, tree: &P, context: OpNumber, op: OpNumber, needs: &Needs)
+        requires listing { IsListingOf (P.forest tree.now) (listing self.old) }
+        requires needs { AreNeeds (P.forest tree.now) needs.now.items }
+        ensures { listing self.new ≡ all_uncovered context.0 op.0 needs.now.items (listing self.old) };
 }

@@ -15,7 +15,7 @@ use Rattle.region_walk.proofs.Rising.{inserted_at, or_no, up_to}
 
 -- ---- places
 
-behind_get : (op : ℕ) (ks : List Kept) (i : ℕ) (d : Kept) → AreBehind op (entries_of ks) → i < length ks → op < (get_or ks i d).entry.op.0
+pub behind_get : (op : ℕ) (ks : List Kept) (i : ℕ) (d : Kept) → AreBehind op (entries_of ks) → i < length ks → op < (get_or ks i d).entry.op.0
 behind_get op [] i d a l = absurd (omega (arith, l))
 behind_get op (k ∷ ks) zero d a l = All-head (λ (e : Listed). op < e.op.0) k.entry (entries_of ks) a
 behind_get op (k ∷ ks) (suc i) d a l = behind_get op ks i d (All-tail (λ (e : Listed). op < e.op.0) k.entry (entries_of ks) a) (omega (arith, l))
@@ -49,7 +49,7 @@ behind_more op (suc i) (k ∷ ks) d l h a = behind_more op i ks d (omega (arith,
 
 -- ---- an operation among them
 
-behind_none : (op : ℕ) (ls : List Listed) → AreBehind op ls → has_op ls op ≡ false
+pub behind_none : (op : ℕ) (ls : List Listed) → AreBehind op ls → has_op ls op ≡ false
 behind_none op ls a =
     list_any_none (is_op op) ls (All-weaker (λ (l : Listed). op < l.op.0) (λ (l : Listed). is_op op l ≡ false) (λ l h. ne_eqb l.op.0 op (λ e. omega (arith, e, h))) ls a)
 

@@ -124,12 +124,12 @@ most_tail x y xs ys (inl p) e = absurd (omega (arith, p, e))
 most_tail x y xs ys (inr p) e = p.1
 
 -- the heads of three lists are one number, where those of the outer ones are; and then the tails are in order
-record Within (x y z : ℕ) (xs ys zs : List ℕ) : Type 0 where
+pub record Within (x y z : ℕ) (xs ys zs : List ℕ) : Type 0 where
   pub head : x ≡ y
   pub low : AtMost xs ys
   pub high : AtMost ys zs
 
-within_one : (x y z : ℕ) (xs ys zs : List ℕ) → x ≡ z → AtMost (x ∷ xs) (y ∷ ys) → AtMost (y ∷ ys) (z ∷ zs) → Within x y z xs ys zs
+pub within_one : (x y z : ℕ) (xs ys zs : List ℕ) → x ≡ z → AtMost (x ∷ xs) (y ∷ ys) → AtMost (y ∷ ys) (z ∷ zs) → Within x y z xs ys zs
 within_one x y z xs ys zs e a b =
     let low = most_head x y xs ys a in
     let high = most_head y z ys zs b in

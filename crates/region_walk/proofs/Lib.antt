@@ -1,8 +1,10 @@
 pub mod Bounding
 pub mod Climbing
+pub mod Covering
 pub mod Descending
 pub mod Examples
 pub mod Exact
+pub mod Heads
 pub mod Indexing
 pub mod Keeping
 pub mod Keys
@@ -13,6 +15,8 @@ pub mod Nearness
 pub mod Ordering
 pub mod Passing
 pub mod Permuting
+pub mod Ranging
 pub mod Rising
+pub mod Sifting
 pub mod Skipping
 pub mod Turning

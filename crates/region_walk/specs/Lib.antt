@@ -1,7 +1,9 @@
+pub mod Covering
 pub mod Found
 pub mod Keeping
 pub mod Near
 pub mod Placing
+pub mod Ranges
 pub mod Rows
 pub mod Sides
 pub mod Users

@@ -2,10 +2,12 @@
 
 ghost use Rattle.std.specs.Prelude.{◌≡◌, ◌≤◌, IfNone, IfSome, false, length};
 ghost use Rattle.region_finder.specs.Listings.{has_op};
+ghost use Rattle.region_walk.specs.Covering.{uncovered_entries};
 ghost use Rattle.region_walk.specs.Keeping.{IsPlaceAmong, StandsAt, entries_of};
 ghost use Rattle.region_walk.specs.Placing.{IsPlace, IsRising};
 
 use crate::entry::Entry;
+use crate::user::User;
 use region_finder::{Paths, Probe, Steps};
 use region_tree::{Need, OpNumber};
 use std::alloc::{AllocError, Global};
@@ -73,8 +75,10 @@ impl Entries {
     ghost use Rattle.std.specs.Prelude.{◌≡◌, [], false, filter, map, OnErr, OnOk};
     ghost use Rattle.region_finder.specs.Listings.{has_op, inserted, listed};
     ghost use Rattle.region_tree.specs.Needs.{AreNeeds};
+    ghost use Rattle.region_walk.specs.Covering.{uncovered_entries};
     ghost use Rattle.region_walk.specs.Keeping.{end_op, entries_of, is_live, live};
     ghost use Rattle.region_walk.specs.Placing.{IsRising};
+    ghost use Rattle.region_walk.specs.Ranges.{uncovered_among, uncovered_of};
 
     pub fn new(alloc: Global) -> Entries
         ensures { result ≡ [] }
@@ -148,6 +152,31 @@ impl Entries {
         }
     }
 
+    /// Takes out of the entry of one operation what these needs of another one cover.
+    fn uncover_of(&mut self, one: OpNumber, context: OpNumber, op: OpNumber, needs: &[Need])
+        ensures { self.new ≡ map (uncovered_of one.0 context.0 op.0 needs.now) self.old }
+    {
+        if let Some(place) = find(self.kept.as_slice(), one) {
+            self.kept[place].entry.uncover(context, op, needs);
+        }
+    }
+
+    /// The same of all operations that have one of these users.
+    pub fn uncover_among(&mut self, users: &[User], context: OpNumber, op: OpNumber, needs: &[Need])
+        ensures { self.new ≡ map (uncovered_among users.now context.0 op.0 needs.now) self.old }
+    {
+        for user in users {
+            self.uncover_of(user.op(), context, op, needs);
+        }
+    }
+
+    /// Takes out of all entries what these needs of an operation cover.
+    pub fn uncover(&mut self, context: OpNumber, op: OpNumber, needs: &[Need])
+        ensures { self.new ≡ uncovered_entries context.0 op.0 needs.now self.old }
+    {
+        uncover_all(&mut self.kept, context, op, needs);
+    }
+
     /// How many there are.
     pub fn len(&self) -> usize {
         self.kept.len()
@@ -164,6 +193,15 @@ impl Entries {
     {
         self.kept.retain(|kept| !kept.ended);
         self.ended = 0;
+    }
+}
+
+/// Takes out of all of these what some needs cover.
+fn uncover_all(kept: &mut Vec<Kept>, context: OpNumber, op: OpNumber, needs: &[Need])
+    ensures { kept.new.items ≡ uncovered_entries context.0 op.0 needs.now kept.old.items }
+{
+    for place in 0..kept.len() {
+        kept[place].entry.uncover(context, op, needs);
     }
 }
 

@@ -2,10 +2,12 @@
 #![tactic(auto)]
 
 mod conflicts;
+mod covers;
 mod entries;
 mod entry;
 mod found;
 mod placed;
+mod ranges;
 mod scan;
 mod user;
 mod users;

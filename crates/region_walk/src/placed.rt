@@ -4,8 +4,9 @@ ghost use Rattle.std.specs.Prelude.{◌≡◌, IfOk, map, reverse};
 ghost use Rattle.region_tree.specs.Needs.{AreNeeds, IsNeed};
 ghost use Rattle.region_tree.specs.Trees.{IsNode};
 ghost use Rattle.region_finder.specs.Forests.{IsForest, way_up};
-ghost use Rattle.region_finder.specs.Listings.{placed};
+ghost use Rattle.region_finder.specs.Listings.{covers, is_covered, placed};
 
+use crate::covers::covers;
 use region_finder::Paths;
 use region_tree::{Need, Node};
 use smallvec::SmallVec;
@@ -41,6 +42,20 @@ impl Placed {
         ensures { result.now ≡ self.now.need }
     {
         &self.need
+    }
+
+    /// Whether a need writes this one's field at all of its points.
+    fn is_covered_by(&self, by: &Need) -> bool
+        ensures { result ≡ covers self.now by.now }
+    {
+        covers(by, &self.need, self.way.as_slice())
+    }
+
+    /// Whether one of these needs does.
+    pub fn is_covered(&self, needs: &[Need]) -> bool
+        ensures { result ≡ is_covered needs.now self.now }
+    {
+        needs.iter().any(|by| self.is_covered_by(by))
     }
 }
 

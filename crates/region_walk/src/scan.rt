@@ -93,4 +93,8 @@ impl Finder for ScanFinder {
             self.entries.tidy();
         }
     }
+
+    fn cover<P: Paths>(&mut self, tree: &P, context: OpNumber, op: OpNumber, needs: &Needs) {
+        self.entries.uncover(context, op, needs.items.as_slice());
+    }
 }

@@ -1,16 +1,20 @@
 //! Users of regions: the needs of listed operations.
 
-ghost use Rattle.std.specs.Prelude.{◌≡◌, ◌≤◌, ◌+◌, IfOk};
+ghost use Rattle.std.specs.Prelude.{◌≡◌, ◌≤◌, ◌+◌, ◌==◌, ◌&&◌, IfOk, nat_lt};
 ghost use Rattle.region_tree.specs.Needs.{IsNeed, requirement_of};
 ghost use Rattle.region_tree.specs.Requirements.{conflict};
-ghost use Rattle.region_finder.specs.Listings.{placed};
+ghost use Rattle.region_finder.specs.Forests.{IsForest};
+ghost use Rattle.region_finder.specs.Listings.{covers, is_covered, placed};
+ghost use Rattle.region_walk.specs.Covering.{is_dominated};
 ghost use Rattle.region_walk.specs.Near.{are_near, is_near};
+ghost use Rattle.region_walk.specs.Ranges.{is_under};
 ghost use Rattle.region_walk.specs.Sides.{is_beside, is_less, is_of, key, least_key, way_down};
 ghost use Rattle.region_walk.specs.Users.{IsUser, is_of_another, listed_need};
 
 use crate::conflicts::conflict;
+use crate::covers::covers;
 use crate::placed::way_down;
-use crate::ways::{are_less, leaves};
+use crate::ways::{are_less, begins, leaves};
 use region_finder::{Paths, Probe, Steps};
 use region_tree::{Need, Node, OpNumber};
 use smallvec::SmallVec;
@@ -51,7 +55,8 @@ impl User {
         need: &Need,
     ) -> Result<User, AllocError>
         requires { IsNeed (P.forest tree.now) need.now }
-        ensures { IfOk result (λ u. u ≡ listed_need context op (placed (P.forest tree.now) need.now)) }
+        ensures user { IfOk result (λ u. u ≡ listed_need context op (placed (P.forest tree.now) need.now)) }
+        ensures forest { IfOk result (λ _. IsForest (P.forest tree.now)) }
     {
         let way = way_down(alloc, tree, need.node)?;
         Ok(User {
@@ -144,6 +149,16 @@ impl User {
         are_less(self.way(), other.way())
     }
 
+    /// Whether the user has the context, root and field of another one, and its way goes on from that one's.
+    pub fn is_under(&self, top: &User) -> bool
+        ensures { result ≡ is_under top.now self.now }
+    {
+        top.context.0 == self.context.0
+            && top.need.root.0 == self.need.root.0
+            && top.need.field == self.need.field
+            && begins(top.way(), self.way())
+    }
+
     /// How many steps the user's way shares with another one, and whether it then goes to a lesser colour.
     pub fn parts_from(&self, way: &[(Node, u32)]) -> (usize, bool) {
         let own = self.way();
@@ -166,5 +181,33 @@ impl User {
         ensures { result ≡ is_beside context.0 need.now way.now parts.0 parts.1 self.now }
     {
         self.is_of(context, need) && leaves(way, self.way(), parts.0, parts.1)
+    }
+
+    /// Whether a need writes the user's field at all of its points.
+    fn is_covered_by(&self, by: &Need) -> bool
+        ensures { result ≡ covers self.now.placed by.now }
+    {
+        covers(by, &self.need, self.way())
+    }
+
+    /// Whether one of these needs does.
+    fn is_covered(&self, needs: &[Need]) -> bool
+        ensures { result ≡ is_covered needs.now self.now.placed }
+    {
+        needs.iter().any(|by| self.is_covered_by(by))
+    }
+
+    /// Whether the operation is of a context, and has a smaller number than another one.
+    fn is_earlier(&self, context: OpNumber, op: OpNumber) -> bool
+        ensures { result ≡ ((self.now.context.0 == context.0) && nat_lt self.now.op.0 op.0) }
+    {
+        self.context.0 == context.0 && self.op.0 < op.0
+    }
+
+    /// Whether the user is of a smaller operation of a context, and one of these needs covers it.
+    pub fn is_dominated(&self, context: OpNumber, op: OpNumber, needs: &[Need]) -> bool
+        ensures { result ≡ is_dominated context.0 op.0 needs.now self.now }
+    {
+        self.is_earlier(context, op) && self.is_covered(needs)
     }
 }

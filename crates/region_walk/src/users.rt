@@ -3,9 +3,9 @@
 ghost use Rattle.std.specs.Prelude.{◌≡◌, ◌≤◌, ◌<◌, ◌+◌, ◌++◌, ◌∷◌, [], All, IsPermutation, OnOk, drop, false, filter, get_or, length, map, reverse, true, ℕ};
 ghost use Rattle.region_tree.specs.Needs.{AreNeeds, IsNeed, requirement_of};
 ghost use Rattle.region_tree.specs.Requirements.{conflict};
-ghost use Rattle.region_finder.specs.Listings.{placed};
+ghost use Rattle.region_finder.specs.Listings.{IsListingOf, all_uncovered, placed};
 ghost use Rattle.region_walk.specs.Found.{put_all, put_met, put_where};
-ghost use Rattle.region_walk.specs.Keeping.{live, live_users};
+ghost use Rattle.region_walk.specs.Keeping.{AreKept, live, live_users};
 ghost use Rattle.region_walk.specs.Near.{is_met, is_near, near_users};
 ghost use Rattle.region_walk.specs.Sides.{AreByKey, ArePassed, IsPlaceByKey, is_less, key, least_key};
 ghost use Rattle.region_walk.specs.Users.{IsUser, ListedNeed, is_of_another, listed_need};
@@ -13,6 +13,7 @@ ghost use Rattle.region_walk.specs.Users.{IsUser, ListedNeed, is_of_another, lis
 use crate::entries::Entries;
 use crate::found::Found;
 use crate::placed::way_down;
+use crate::ranges::{range_of, sift};
 use crate::user::User;
 use region_finder::{Paths, Probe, Steps};
 use region_tree::{Need, Node, OpNumber};
@@ -88,6 +89,28 @@ impl Users {
         ensures { self.new ≡ live_users (live listed.now) self.old }
     {
         self.users.retain(|user| listed.has(user.op()));
+    }
+
+    /// Takes the users out that a need of an operation covers, and what it covers out of their entries.
+    pub fn uncover<P: Paths>(
+        &mut self,
+        entries: &mut Entries,
+        tree: &P,
+        context: OpNumber,
+        op: OpNumber,
+        need: &Need,
+    )
+        requires kept { AreKept entries.old self.old }
+        requires listing { IsListingOf (P.forest tree.now) (live entries.old) }
+        requires need { IsNeed (P.forest tree.now) need.now }
+        ensures kept { AreKept entries.new self.new }
+        ensures live { live entries.new ≡ all_uncovered context.0 op.0 (need.now ∷ []) (live entries.old) }
+    {
+        let alloc = *self.users.allocator();
+        let (from, to) = range_of(self.users.as_slice(), alloc, tree, context, op, need);
+        let needs = [*need];
+        entries.uncover_among(&self.users[from..to], context, op, &needs);
+        sift(&mut self.users, from, to, context, op, &needs);
     }
 
     /// How many there are.

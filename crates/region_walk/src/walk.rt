@@ -1,17 +1,18 @@
 //! A finder that walks through the users of a need's field.
 
-ghost use Rattle.std.specs.Prelude.{◌≡◌, ◌≤◌, ◌+◌, ◌++◌, false, filter, IfOk, IsPermutation, OnErr, OnOk};
-ghost use Rattle.region_tree.specs.Needs.{AreNeeds};
-ghost use Rattle.region_finder.specs.Listings.{AreRising, IsListingOf, earlier, has_op, inserted, listed};
+ghost use Rattle.std.specs.Prelude.{◌≡◌, ◌≤◌, ◌+◌, ◌++◌, ◌∷◌, [], false, filter, IfOk, IsPermutation, OnErr, OnOk};
+ghost use Rattle.region_tree.specs.Needs.{AreNeeds, IsNeed};
+ghost use Rattle.region_finder.specs.Listings.{AreRising, IsListingOf, all_uncovered, earlier, has_op, inserted, listed};
 ghost use Rattle.region_walk.specs.Keeping.{AreKept, entries_of, is_live, live};
 ghost use Rattle.region_walk.specs.Near.{near_pairs, needs_of_context};
 ghost use Rattle.region_walk.specs.Users.{is_of_another, users_in};
 
+use crate::covers::is_write;
 use crate::entries::Entries;
 use crate::found::Found;
 use crate::users::Users;
 use region_finder::{Finder, Paths, Probe, Steps};
-use region_tree::{Needs, OpNumber};
+use region_tree::{Need, Needs, OpNumber};
 use std::alloc::{AllocError, Global};
 use std::marker::Model;
 use std::sync::ledger::Ledger;
@@ -128,6 +129,57 @@ impl Finder for WalkFinder {
         if self.entries.are_stale() {
             self.tidy();
         }
+    }
+
+    fn cover<P: Paths>(&mut self, tree: &P, context: OpNumber, op: OpNumber, needs: &Needs) {
+        cover_each(
+            &mut self.entries,
+            &mut self.users,
+            tree,
+            context,
+            op,
+            needs.items.as_slice(),
+        );
+    }
+}
+
+/// Takes out of entries and users what a need of an operation covers.
+fn cover_one<P: Paths>(
+    entries: &mut Entries,
+    users: &mut Users,
+    tree: &P,
+    context: OpNumber,
+    op: OpNumber,
+    need: &Need,
+)
+    requires kept { AreKept entries.old users.old }
+    requires listing { IsListingOf (P.forest tree.now) (live entries.old) }
+    requires need { IsNeed (P.forest tree.now) need.now }
+    ensures kept { AreKept entries.new users.new }
+    ensures live { live entries.new ≡ all_uncovered context.0 op.0 (need.now ∷ []) (live entries.old) }
+{
+    if is_write(need.mode) {
+        users.uncover(entries, tree, context, op, need);
+    }
+}
+
+/// Takes out of entries and users what these needs of an operation cover.
+fn cover_each<P: Paths>(
+    entries: &mut Entries,
+    users: &mut Users,
+    tree: &P,
+    context: OpNumber,
+    op: OpNumber,
+    needs: &[Need],
+)
+    requires kept { AreKept entries.old users.old }
+    requires listing { IsListingOf (P.forest tree.now) (live entries.old) }
+    requires needs { AreNeeds (P.forest tree.now) needs.now }
+    ensures kept { AreKept entries.new users.new }
+    ensures live { live entries.new ≡ all_uncovered context.0 op.0 needs.now (live entries.old) }
+{
+    for place in 0..needs.len() {
+        cover_one(entries, users, tree, context, op, &needs[place]);
     }
 }
 

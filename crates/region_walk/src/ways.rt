@@ -1,6 +1,7 @@
 //! Ways from a root's region down to nodes: what stands above them, from the top.
 
 ghost use Rattle.std.specs.Prelude.{◌≡◌};
+ghost use Rattle.region_walk.specs.Ranges.{begins};
 ghost use Rattle.region_walk.specs.Sides.{is_less, is_on_side, leaves, numbers_of};
 
 use region_tree::Node;
@@ -47,4 +48,21 @@ pub fn leaves(way: &[(Node, u32)], other: &[(Node, u32)], steps: usize, side: bo
         }
     }
     way[steps].0.0 == other[steps].0.0 && is_on_side(side, way[steps].1, other[steps].1)
+}
+
+/// Whether another way goes on from one.
+#[tactic(auto, using(crate::proofs::Heads::begins_step))]
+pub fn begins(way: &[(Node, u32)], other: &[(Node, u32)]) -> bool
+    ensures { result ≡ begins (numbers_of way.now) (numbers_of other.now) }
+{
+    if other.len() < way.len() {
+        return false;
+    }
+    for place in 0..way.len() {
+        let (one, two) = (way[place], other[place]);
+        if one.0.0 != two.0.0 || one.1 != two.1 {
+            return false;
+        }
+    }
+    true
 }

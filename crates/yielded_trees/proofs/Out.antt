@@ -29,7 +29,7 @@ use Rattle.board_trees.specs.Places.{LeavesPlaces}
 use Rattle.board_trees.specs.Shows.{Shows, ShowsBoard}
 use Rattle.board_trees.specs.Waits.{Sibling}
 use Rattle.board_trees.proofs.Named.{is_naming, named_all}
-use Rattle.board_trees.proofs.Settled.{stage_there}
+use Rattle.board_trees.proofs.Told.{stage_there}
 use Rattle.given_trees.specs.Segments.{AreLeft}
 use Rattle.given_trees.proofs.Left.{left_places}
 use Rattle.given_trees.proofs.Segments.{segments_show}

@@ -36,8 +36,8 @@ use Rattle.board_terms.specs.States.{State, operation_at}
 use Rattle.board_trees.specs.Frames.{IsSeen}
 use Rattle.board_trees.specs.Names.{AreMade, IsNaming}
 use Rattle.board_trees.specs.Places.{LeavesPlaces}
-use Rattle.board_trees.specs.Shows.{HoldsMap, IfRuns, Shows, ShowsBoard, ShowsChildren, siblings}
-use Rattle.board_trees.specs.Stages.{AwaitsOn, HasWait, IsWait, MayIdle, Stands, WaitsWell}
+use Rattle.board_trees.specs.Shows.{AreListed, HoldsMap, IfRuns, Shows, ShowsBoard, ShowsChildren, siblings}
+use Rattle.board_trees.specs.Stages.{AwaitsOn, HasWait, IsWait, MayIdle, Stands, WaitsWell, was_begun}
 use Rattle.board_trees.specs.Waits.{Sibling}
 use Rattle.board_trees.proofs.Along.{not_above}
 use Rattle.board_trees.proofs.Kept.{seen_as}
@@ -50,7 +50,7 @@ use Rattle.changed_trees.specs.Edits.{edited, told_at}
 use Rattle.changed_trees.specs.Given.{Opens, effects_of, given_board, left_of, makings_before, yielded_by}
 use Rattle.changed_trees.specs.Open.{Asked, IsOpen, OpenBoard, OpenRow}
 use Rattle.changed_trees.proofs.Below.{children_kept}
-use Rattle.changed_trees.proofs.Kept.{awaits_kept, back, has_wait_kept, seen_kept, shown_match, wider_itself, wider_on}
+use Rattle.changed_trees.proofs.Kept.{awaits_kept, back, clear_kept, has_wait_kept, listed_kept, seen_kept, shown_match, wider_itself, wider_on}
 use Rattle.changed_trees.proofs.One.{IsOngoing, knot_is, knot_within, one_changed, row_is, some_failed_same}
 use Rattle.changed_trees.proofs.Walks.{OfAll, told_holds, up_alike}
 use Rattle.yielded_trees.proofs.Builder.{change, opens, own_apart_same, own_made_same, own_same}
@@ -201,6 +201,10 @@ module _ (job : Job) (s : State) (b : Board (regent_ground (spaces_of job.code))
         free = λ c r. absurd (never_first q r);
         waits = subst (λ (c : Knot). WaitsWell job.code u.waits.knots D N earlier (siblings job (operation_at u k).children js) c.on (stage_by q)) (sym knotted_is)
             (subst (λ (r : Operation). WaitsWell job.code u.waits.knots D N earlier (siblings job r.children js) on (stage_by q)) (sym row) (waiting q e));
+        begun = λ c. clear_kept job s u h.who h.who b.ways b.ways (λ w. v ≡ w) changes D earlier (x.0.begun (ap was_begun begun.stage));
+        listed = subst (λ (r : Operation). AreListed job u h.who wide k (siblings job r.children js)) (sym row)
+            (subst (AreListed job u h.who wide k) (sym (text_siblings job o.children is a.text))
+            (listed_kept job s u h.who h.who b.ways b.ways (λ w. v ≡ w) changes roots wide wide_roots under k (λ e z n c. c) (siblings job o.children is) x.0.listed));
       }
         where
           row : operation_at u k ≡ pausing

@@ -39,6 +39,7 @@ use Rattle.board_terms.specs.Gives.{behind_segment, frame_left, is_on, needs_on,
 use Rattle.board_terms.specs.States.{State, no_operation, operation_at, with_operation}
 use Rattle.board_trees.specs.Names.{IsNaming, named, pointed, requirement_named}
 use Rattle.board_trees.specs.Shows.{Shows, ShowsBoard, siblings}
+use Rattle.board_trees.proofs.Ordered.{children_ordered}
 use Rattle.board_trees.specs.Waits.{Sibling, WaitsFor}
 use Rattle.board_trees.proofs.Named.{named_all}
 use Rattle.board_trees.proofs.Settled.{children_bad}
@@ -150,7 +151,8 @@ module _ (job : Job) (s : State) (b : Board (regent_ground (spaces_of job.code))
       waits = ((wants_are_needed before root field wants).needed g goes, (wants_are_needed before root field wants).none, (refl, λ other n. same_name other n));
       awaits = waits_for;
       fails = sym (children_bad job s h.who b.ways (makings_before job b k v) (filter (is_of K.root K.field) N) v k 0 [] roots (operation_at s k).children is x.1)
-          ∙ sym (waits_are_told s.waits.knots (filter (is_of K.root K.field) N) (siblings job (operation_at s k).children is) on waits_for).failed;
+          ∙ sym (waits_are_told s.waits.knots (filter (is_of K.root K.field) N) (siblings job (operation_at s k).children is) on
+          (children_ordered job s h.who b.ways v k 0 [] roots (operation_at s k).children is x.1 tt) waits_for).failed;
     }
 
   abbrev then : State

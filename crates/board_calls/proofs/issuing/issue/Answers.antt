@@ -3,7 +3,8 @@ use Rattle.std.proofs.lemmas.Result.{on_ok_weaker}
 use Rattle.region_finder.specs.Listings.{IsListingOf}
 use Rattle.dependence_graph.specs.Graphs.{Waits}
 use Rattle.dependence_graph.specs.Issues.{AreAllNeeds}
-use Rattle.board_calls.proofs.Issues.{all_need, listing_issued}
+use Rattle.dependence_graph.proofs.Covering.{listing_issued}
+use Rattle.board_calls.proofs.Issues.{all_need}
 use Rattle.board_calls.proofs.issuing.issue.Goals as goal
 
 pub issue_by-requires-clause-needs : goal.issue_by-requires-clause-needs

@@ -18,12 +18,12 @@ loop-need-preserved g c =
     let user = c.in_ok-user.user in
     let left : map f (map (placed t) (drop i needs)) ≡ user ∷ rest =
     ap (λ (ns : List Need). map f (map (placed t) ns)) (drop_more needs i _ (omega (arith, c.loop-need-test.true)))
-    ∙ ap (λ (u : ListedNeed). u ∷ rest) (sym c.in_ok-user.ensures) in
+    ∙ ap (λ (u : ListedNeed). u ∷ rest) (sym c.in_ok-user.ensures.user) in
     record {
       added = perm_more all rest c.loop-need.self c.insert.new.self user
           (subst (λ (us : List ListedNeed). IsPermutation all (us ++ c.loop-need.self)) left c.loop-need.invariant.added)
           c.in_ok-insert.ensures.added;
       others = subst (λ (o : OpNumber). filter (is_of_another o.0) c.insert.new.self ≡ filter (is_of_another o.0) c.loop-need.self)
-          (ap (λ (u : ListedNeed). u.op) c.in_ok-user.ensures) c.insert.ensures.others
+          (ap (λ (u : ListedNeed). u.op) c.in_ok-user.ensures.user) c.insert.ensures.others
           ∙ c.loop-need.invariant.others;
     }
