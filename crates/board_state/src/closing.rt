@@ -54,12 +54,12 @@ impl BoardState {
         }
     }
 
-    /// Whether all of these are over.
+    /// Whether all of these are over. The last ones are asked first, since mostly they are over last.
     fn all_over(&self, ops: &[OpNumber]) -> bool
         ensures { result ≡ all_over self.now ops.now }
     {
-        for op in ops {
-            if !self.is_over(*op) {
+        for place in 0..ops.len() {
+            if !self.is_over(ops[ops.len() - 1 - place]) {
                 return false;
             }
         }
