@@ -22,10 +22,10 @@ use Rattle.machine_terms.specs.Makes.{region_with}
 use Rattle.machine_terms.specs.Parts.{cell_of, cell_at, is_part_of}
 use Rattle.machine_terms.specs.Pointers.{region_in}
 use Rattle.machine_terms.specs.Regions.{coloured}
-use Rattle.fit_rules.specs.Shapes.{Among, Shape, integer, region, partition, World, IsRegion, IsPartition, Is, is_number, is_region, is_partition, Are, are_none, are_more, Origin, unknown, own_as, argument, ComesFrom, KnowsRoots, argument, child_at, the_colour}
+use Rattle.fit_rules.specs.Shapes.{Among, Shape, integer, region, partition, World, IsRegion, IsPartition, Is, is_number, is_region, is_partition, Are, are_none, are_more, Origin, unknown, own_as, argument, ComesFrom, KnowsRoots, argument, child_at, held_at, the_colour}
 use Rattle.fit_rules.specs.Marks.{Holds, lies, in_slot, parted, LiesAt, LiesIn, IsParted, Suits, around}
 use Rattle.fit_rules.specs.Fits.{requires, claims, AreClaims, no_claims, a_claim, CellFits, PartFits, PartsFit}
-use Rattle.fit_rules.specs.Example.{task, program, whole, part, args_of, world_of, held, halves, numbers, made, machine, later, ExampleFits, FailsEachPoint, ChildIsKnown, handing}
+use Rattle.fit_rules.specs.Example.{task, program, whole, part, args_of, world_of, held, halves, numbers, made, machine, later, ExampleFits, FailsEachPoint, ChildIsKnown, handing, HeldIsKnown, keeping}
 use Rattle.fit_rules.proofs.Points.{counted_points}
 
 -- ---- regions and the partition
@@ -280,6 +280,33 @@ child_is_known = (
         let child = subst (λ z. coloured (cut given).children z ≡ Some part) c.has_colour
         (subst (λ (q : PartitionValue). coloured q.children c.colour ≡ Some part) (sym parts) c.child) in
         false≢true (sym (ap (λ (r : RegionValue). has r.points 0) (same_Some (region_with 3 (0 ∷ [])) part child)))
+
+-- ---- a slot's region on the stack
+
+pub held_is_known : HeldIsKnown
+held_is_known = (
+  record {
+    slots = suits.slots;
+    stack = are_more _ _ _ _ (is_region (Some 0) (held_at 1 (argument 1)) part (record {
+      there = refl;
+      space = refl;
+      set = half.set;
+      points = half.points;
+      origin = (refl, refl);
+    })) are_none;
+    facts = suits.facts;
+    top = tt;
+    args = args_stand;
+  },
+  λ s. other s.stack,
+)
+  where
+    half : IsRegion (world_of given) (Some 0) unknown part
+    half = second_half given unknown tt
+
+    other : Are (around (world_of given) (keeping 0) slots) (region (Some 0) (held_at 0 (argument 1)) ∷ []) (value.Region part ∷ []) → ⊥
+    other (are_more _ _ _ _ (is_region _ _ _ i) a) =
+        false≢true (sym (ap (λ (r : RegionValue). has r.points 0) (same_Some whole part i.origin.1)))
 
 -- ---- states that fail
 

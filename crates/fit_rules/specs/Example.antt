@@ -19,7 +19,7 @@ use Rattle.machine_terms.specs.declared.value.Value.{Value}
 use Rattle.machine_terms.specs.declared.value.Value.TheVariants as value
 use Rattle.machine_terms.specs.Machine.{Machine}
 use Rattle.machine_terms.specs.Makes.{region_with}
-use Rattle.fit_rules.specs.Shapes.{Shape, anything, integer, index, pointer, space, region, partition, argument, own_as, World, child_at, the_colour}
+use Rattle.fit_rules.specs.Shapes.{Shape, anything, integer, index, pointer, space, region, partition, argument, own_as, World, child_at, held_at, the_colour}
 use Rattle.fit_rules.specs.Marks.{Fact, lies, in_slot, parted, Mark, Suits}
 use Rattle.fit_rules.specs.Fits.{Program, Fits, BeforeFits}
 
@@ -230,3 +230,16 @@ Hands z = Suits (world_of (args_of part halves)) 3 (handing z) machine.frame.slo
 -- it is the one by the colour 1, and not that by the colour 0
 abbrev pub ChildIsKnown : Type 0
 ChildIsKnown = Hands (pos 1) × (Hands (pos 0) → ⊥)
+
+-- ---- a slot's region on the stack
+
+-- the region on the stack is known as the one in a slot, and as that of the second argument
+abbrev pub keeping : ℕ → Mark
+keeping s = record (later (region (Some 0) (held_at s (argument 1)) ∷ [])) { fixed = 3 }
+
+abbrev pub Keeps : ℕ → Type 0
+Keeps s = Suits (world_of (args_of part halves)) 3 (keeping s) machine.frame.slots (value.Region part ∷ [])
+
+-- it is the one in slot 1, and not that in slot 0
+abbrev pub HeldIsKnown : Type 0
+HeldIsKnown = Keeps 1 × (Keeps 0 → ⊥)

@@ -3,7 +3,7 @@
 ghost use Rattle.std.specs.Prelude.{◌≡◌, [], ◌∷◌, IfOk};
 ghost use Rattle.regent_grammar.specs.Reading.{read, reading};
 ghost use Rattle.regent_grammar.specs.Rules.{many, ◌⊳◌};
-ghost use Rattle.regent_grammar.specs.Singles.{a_mark, name, separated};
+ghost use Rattle.regent_grammar.specs.Singles.{a_mark, name, names};
 ghost use Rattle.regent_grammar.specs.Statements.{fields};
 ghost use Rattle.regent_grammar.specs.Symbols.{comes, is_mark};
 ghost use Rattle.regent_lex.specs.declared.tables.Mark.TheVariants as mark;
@@ -48,10 +48,10 @@ fn more_names(
 }
 
 /// Names, with commas between them.
-#[tactic(auto, unfolding(regent_grammar::proofs::Opening::reading, regent_grammar::specs::Singles::separated))]
+#[tactic(auto, unfolding(regent_grammar::proofs::Opening::reading, regent_grammar::specs::Singles::names))]
 fn names(alloc: Global, terminals: &[Terminal]) -> Result<(Sequence<Name>, &[Terminal]), Stop<'_>>
     ensures { Gives (λ x. read x.0 x.1.now) result
-        (reading (separated name) terminals.now) }
+        (reading names terminals.now) }
 {
     let (first, rest) = take_name(alloc, terminals)?;
     more_names(alloc, first, rest)

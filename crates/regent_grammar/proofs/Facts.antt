@@ -15,7 +15,7 @@ use Rattle.regent_grammar.specs.Guards.{takes, is_sound}
 -- opens all rules
 unfoldable pub all_rules : Unit {0}
 unfolding single.a_mark single.a_word single.named single.the_text single.name single.text
-    single.separated single.in_parentheses single.maybe_listed single.arguments type.kind
+    single.names single.separated single.in_parentheses single.maybe_listed single.arguments type.kind
     type.reference type.space_use type.pointer type.number type.index_space type.region_kind
     type.region_type type.disjointness type.partition_type type.type_term type.parameter
     expr.expression expr.field_step expr.place_step expr.step expr.steps expr.access expr.literal

@@ -1,5 +1,5 @@
 -- Each production of statements and items is priced.
-use Rattle.std.proofs.Common.{◌≡◌, ℕ, suc, ◌+◌, ◌≤◌, List, ◌∷◌, ◌++◌, Option, Some, None, length, ap, subst, arith}
+use Rattle.std.proofs.Common.{◌≡◌, ℕ, suc, ◌+◌, ◌≤◌, List, [], ◌∷◌, ◌++◌, Option, Some, None, length, ap, subst, arith}
 use Rattle.regent_tree.specs.declared.types.Param.{Param}
 use Rattle.regent_tree.specs.declared.types.TypeTerm.{TypeTerm}
 use Rattle.regent_tree.specs.declared.types.Kind.{Kind}
@@ -14,6 +14,7 @@ use Rattle.regent_lex.specs.declared.tables.Word.TheVariants as word
 use Rattle.regent_grammar.specs.Nodes.{expressions_from, returning_from, Armed, arms_from, otherwise_from}
 use Rattle.std.specs.Prelude.{codes}
 use Rattle.regent_grammar.specs.Rules.{Sort, Value, an_expression, a_block}
+use Rattle.regent_grammar.specs.Singles as single
 use Rattle.regent_grammar.specs.Types as type
 use Rattle.regent_grammar.specs.Statements as stmt
 use Rattle.regent_grammar.specs.Items as item
@@ -118,18 +119,22 @@ variable' =
     ⊛' word' word.Var ⊳' name' ⊛' maybe' (mark' mark.Colon ⊳' type_term')
     ⊛' maybe' (mark' mark.Assign ⊳' initializer')
 
-pub fields' : Priced (Sort.listed Sort.bytes) stmt.fields
+names' : Priced Sort.names single.names
+unfolding single.names
+names' = price_gives (λ x n h xs m k. names_kept (x ∷ xs) (0 + n + m) (n, m, h, k, omega arith)) ⊛' name' ⊛' price_many (mark' mark.Comma ⊳' name')
+
+pub fields' : Priced Sort.names stmt.fields
 unfolding stmt.fields
 fields' =
-    price_when (mark' mark.OpenBrace ⊳' separated' name' ⊲' mark' mark.CloseBrace)
-    (price_gives (λ x n h. (n, 0, h, tt, omega arith)) ⊛' name')
+    price_when (mark' mark.OpenBrace ⊳' names' ⊲' mark' mark.CloseBrace)
+    (price_gives (λ x n h. names_kept (x ∷ []) (0 + n) (n, 0, h, tt, omega arith)) ⊛' name')
 
 pub filling' : Priced Sort.form stmt.filling
 unfolding stmt.filling
 filling' =
     price_gives (λ r n h fs m k e j l.
     stated (nodes fs ++ parts_of_expression e) n (m + j) (0 + n + m + j) h
-    (keeps_append 0 1 0 (nodes fs) (parts_of_expression e) m j (m + j) (names_kept fs m k) l (omega arith) (omega arith))
+    (keeps_append 0 1 0 (nodes fs) (parts_of_expression e) m j (m + j) k l (omega arith) (omega arith))
     (omega arith))
     ⊛' word' word.Fill ⊳' mark' mark.Open ⊳' name'
     ⊛' mark' mark.Dot ⊳' fields' ⊛' mark' mark.Comma ⊳' expression' ⊲' mark' mark.Close

@@ -26,6 +26,7 @@ pub data Sort : Type 0 where
   line : Sort
   flag : Sort
   bytes : Sort
+  names : Sort
   kind : Sort
   number : Sort
   reference : Sort
@@ -60,6 +61,7 @@ Value Sort.unit = Unit {0}
 Value Sort.line = ℕ
 Value Sort.flag = Bool
 Value Sort.bytes = List ℕ
+Value Sort.names = List (List ℕ)
 Value Sort.kind = Kind
 Value Sort.number = NumberTerm
 Value Sort.reference = Ref

@@ -50,6 +50,11 @@ unfoldable pub separated : {s : Sort} → Rule s → Rule (Sort.listed s)
 separated r =
     gives (λ x xs. x ∷ xs) ⊛ r ⊛ many (comes (is_mark mark.Comma)) (a_mark mark.Comma ⊳ r)
 
+-- one name, and further ones behind commas
+unfoldable pub names : Rule Sort.names
+names =
+    gives (λ n ns. n ∷ ns) ⊛ name ⊛ many (comes (is_mark mark.Comma)) (a_mark mark.Comma ⊳ name)
+
 -- between parentheses
 unfoldable pub in_parentheses : {s : Sort} → Rule s → Rule s
 in_parentheses r = a_mark mark.Open ⊳ r ⊲ a_mark mark.Close

@@ -11,7 +11,7 @@ use Rattle.regent_lex.specs.declared.tables.Word.TheVariants as word
 use Rattle.regent_grammar.specs.Nodes.{expressions_from, Accessed, returning_from, Armed, arms_from, otherwise_from}
 use Rattle.regent_grammar.specs.Symbols.{Test, comes, come, is_mark, is_word, is_named, is_name}
 use Rattle.regent_grammar.specs.Rules.{Sort, ◌⇒◌, Rule, gives, here, one, use', a_block, when◌then◌else◌, maybe, many, ◌⊛◌, ◌⊳◌, ◌⊲◌}
-use Rattle.regent_grammar.specs.Singles.{a_mark, a_word, named, name, text, separated, in_parentheses, arguments}
+use Rattle.regent_grammar.specs.Singles.{a_mark, a_word, named, name, names, text, in_parentheses, arguments}
 use Rattle.regent_grammar.specs.Types.{space_use, type_term}
 use Rattle.regent_grammar.specs.Expressions.{expression, access}
 
@@ -91,10 +91,10 @@ variable =
 abbrev pub one_field : List ℕ → List (List ℕ)
 one_field name = name ∷ []
 
-unfoldable pub fields : Rule (Sort.listed Sort.bytes)
+unfoldable pub fields : Rule Sort.names
 fields =
     when comes (is_mark mark.OpenBrace)
-    then a_mark mark.OpenBrace ⊳ separated name ⊲ a_mark mark.CloseBrace
+    then a_mark mark.OpenBrace ⊳ names ⊲ a_mark mark.CloseBrace
     else gives one_field ⊛ name
 
 -- `fill` `(` Name `.` fields `,` expr `)`

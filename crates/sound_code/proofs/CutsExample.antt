@@ -11,7 +11,7 @@ within : WithinLimits cuts_program
 within = record { each = all_keep (parts_of_program cuts_program) refl; nodes = omega (arith) }
 
 run : IsWholeProgramRun cuts_program (pos 2 ∷ [])
-run = record { run = record { within = within; accepted = refl; local = refl; numbers = (omega (arith, ints), tt) }; free = refl }
+run = record { run = record { within = within; accepted = refl; local = refl; numbers = (omega (arith, ints), tt) }; fields = refl }
 
 pub cuts_example_holds : CutsExampleHolds
 cuts_example_holds = record { run = run; sound = whole_programs_are_sound cuts_program (pos 2 ∷ []) run }

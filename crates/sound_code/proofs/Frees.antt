@@ -16,6 +16,7 @@ use Rattle.code_rules.specs.Instructions.{tasks_of}
 use Rattle.code_rules.specs.Programs.{place_of}
 use Rattle.code_rules.specs.Slots.{bound, typed, Where}
 use Rattle.code_rules.specs.Statements.{after_arm, after_arms, after_form, looping, on_line}
+use Rattle.statement_laws.specs.WrittenStatements.{names_field}
 use Rattle.local_form.specs.LocalForm.{are_fields}
 use Rattle.code_laws.specs.Pointers.{IsCounting}
 use Rattle.code_laws.specs.Simple.{a_partition_type, IsPartition}
@@ -23,7 +24,7 @@ use Rattle.code_laws.specs.Steps.{Forms}
 use Rattle.code_laws.specs.Typed.{BeginsAsPart, AreFilled, AreNumbers, ArePassed, AreTypedArms, AreTypedLinks, IsBegun, IsDifference, IsIndexed, IsKeepable, IsLooped, IsNamedRegion, IsPassed, IsTyped, IsTypedBlock, IsTypedElse, IsTypedForm, LoopsOver, LoopsOverPart}
 use Rattle.code_laws.proofs.Arguments.{given_by, handed_name, IsCutArgument, IsPartArgument}
 use Rattle.code_laws.proofs.Wider.{assigned, beginning, begun, compared, counting, filling, loops_over, looped_over, passing, signed_as, zeroed}
-use Rattle.sound_code.specs.FreeCalls.{are_free_arms, has_any, is_free_block, is_free_else, is_free_form, is_free_program, is_free_task}
+use Rattle.sound_code.specs.FilledFields.{arms_name_fields, block_names_fields, else_names_fields, form_names_fields, names_fields, task_names_fields}
 use Rattle.sound_code.proofs.WholeTasks.{are_whole_arguments, are_whole_arms, are_whole_expressions, are_whole_links, is_value, is_whole_block, is_whole_domain, is_whole_else, is_whole_expression, is_whole_form, is_whole_program, is_whole_task, names_region, takes_part}
 use Rattle.sound_code.proofs.Truths.{both_true}
 use Rattle.sound_code.proofs.Values.{IsValue, integer_value, truth_value, space_value, pointer_value, counting_value, kept_value, alike_values, passed_values, assigned_values, begins_values, itself_value, filled_value, compared_values, signed_value, region_sort, regions_sort, partition_sort}
@@ -183,12 +184,12 @@ module _ (forms : Forms) (keeps : forms.keeps ≡ true) where
   point_typed w n e f g (field_step k rest) lo t = (t.1, counting forms.keeps _ t.2)
   point_typed w n e f g (at_step i rest) lo t = absurd (false≢true lo)
 
-  filled_whole : (w : Where) (r : Name) (fields : List Name) (e : Expression) → has_any fields ≡ true → AreFilled forms.keeps w r (typed w e) fields → IsValue (typed w e)
+  filled_whole : (w : Where) (r : Name) (fields : List Name) (e : Expression) → names_field fields ≡ true → AreFilled forms.keeps w r (typed w e) fields → IsValue (typed w e)
   filled_whole w r [] e some f = absurd (false≢true some)
   filled_whole w r (l ∷ fields) e some f = filled_value (typed w e) _ (filling forms.keeps (typed w e) _ f.0)
 
   mutual
-    form_whole : (w : Where) (form : Form) → IsTypedForm forms w form → is_free_form form ≡ true → is_whole_form false w form ≡ true
+    form_whole : (w : Where) (form : Form) → IsTypedForm forms w form → form_names_fields form ≡ true → is_whole_form false w form ≡ true
     form_whole w (var_form n None (Some (plain_initializer e))) f h = begun_whole w e f
     form_whole w (var_form n (Some t) (Some (plain_initializer e))) f h =
         let u = var_type w.tree w.scope (Some t) (Some (plain_initializer e)) in
@@ -210,7 +211,7 @@ module _ (forms : Forms) (keeps : forms.keeps ≡ true) where
     form_whole w (var_form n (Some t) (Some (both_initializer p q))) f h = refl
     form_whole w (var_form n (Some t) (Some (either_initializer p q))) f h = refl
     form_whole w (if_form arms other) f h =
-        let parts = and_parts (are_free_arms arms) (is_free_else other) h in
+        let parts = and_parts (arms_name_fields arms) (else_names_fields other) h in
         both_true (are_whole_arms false w w arms) (is_whole_else false (after_arms w arms) other) (arms_whole w w arms f.0 parts.0)
         (else_whole (after_arms w arms) other f.1 parts.1)
     form_whole w (while_form test body) f h =
@@ -260,37 +261,37 @@ module _ (forms : Forms) (keeps : forms.keeps ≡ true) where
     form_whole w (return_form (Some e)) f h = expr_whole w e f.1 (alike_values _ _ f.0).0
     form_whole w _ f h = absurd f
 
-    block_whole : (w : Where) (b : Block) → IsTypedBlock forms w b → is_free_block b ≡ true → is_whole_block false w b ≡ true
+    block_whole : (w : Where) (b : Block) → IsTypedBlock forms w b → block_names_fields b ≡ true → is_whole_block false w b ≡ true
     block_whole w no_statement f h = refl
     block_whole w (then_statement (a_statement line form) rest) f h =
-        let parts = and_parts (is_free_form form) (is_free_block rest) h in
+        let parts = and_parts (form_names_fields form) (block_names_fields rest) h in
         both_true (is_whole_form false (on_line w line) form) (is_whole_block false (after_form w form) rest) (form_whole (on_line w line) form f.0 parts.0)
         (block_whole (after_form w form) rest f.1 parts.1)
 
-    arms_whole : (own w : Where) (arms : Arms) → AreTypedArms forms own w arms → are_free_arms arms ≡ true → are_whole_arms false own w arms ≡ true
+    arms_whole : (own w : Where) (arms : Arms) → AreTypedArms forms own w arms → arms_name_fields arms ≡ true → are_whole_arms false own w arms ≡ true
     arms_whole own w no_arm f h = refl
     arms_whole own w (an_arm test body rest) f h =
-        let parts = and_parts (is_free_block body) (are_free_arms rest) h in
+        let parts = and_parts (block_names_fields body) (arms_name_fields rest) h in
         both_true (is_whole_expression false own test) (is_whole_block false w body && are_whole_arms false own (after_arm w body) rest)
         (expr_whole own test f.1 (truth_value _ f.0))
         (both_true (is_whole_block false w body) (are_whole_arms false own (after_arm w body) rest) (block_whole w body f.2 parts.0)
         (arms_whole own (after_arm w body) rest f.3 parts.1))
 
-    else_whole : (w : Where) (other : Otherwise) → IsTypedElse forms w other → is_free_else other ≡ true → is_whole_else false w other ≡ true
+    else_whole : (w : Where) (other : Otherwise) → IsTypedElse forms w other → else_names_fields other ≡ true → is_whole_else false w other ≡ true
     else_whole w no_else f h = refl
     else_whole w (else_block body) f h = block_whole w body f h
 
 -- so it is of a program
 pub program_whole : (tree : Tree) → (forms : TaskTree → Forms) → ((t : TaskTree) → (forms t).keeps ≡ true) →
-    ((k : ℕ) (t : TaskTree) → slice_get (tasks_of tree) k ≡ Some t → IsTypedBlock (forms t) (place_of tree t) t.body) → is_free_program tree ≡ true →
+    ((k : ℕ) (t : TaskTree) → slice_get (tasks_of tree) k ≡ Some t → IsTypedBlock (forms t) (place_of tree t) t.body) → names_fields tree ≡ true →
     is_whole_program false tree ≡ true
 program_whole tree forms keeps typed h = all (tasks_of tree) typed h
   where
     all : (ts : List TaskTree) → ((k : ℕ) (t : TaskTree) → slice_get ts k ≡ Some t → IsTypedBlock (forms t) (place_of tree t) t.body) →
-        list_all is_free_task ts ≡ true → list_all (is_whole_task false tree) ts ≡ true
+        list_all task_names_fields ts ≡ true → list_all (is_whole_task false tree) ts ≡ true
     all [] typed h = refl
     all (t ∷ ts) typed h =
-        let parts = and_parts (is_free_task t) (list_all is_free_task ts) h in
+        let parts = and_parts (task_names_fields t) (list_all task_names_fields ts) h in
         both_true (is_whole_task false tree t) (list_all (is_whole_task false tree) ts)
         (block_whole (forms t) (keeps t) (place_of tree t) t.body (typed zero t refl) parts.0)
         (all ts (λ k u e. typed (suc k) u e) parts.1)

@@ -84,3 +84,4 @@ pub mod WholeExample
 pub mod CutsExample
 pub mod SiblingsExample
 pub mod PiecesExample
+pub mod Written

@@ -11,7 +11,7 @@ within : WithinLimits pieces_program
 within = record { each = all_keep (parts_of_program pieces_program) refl; nodes = omega (arith) }
 
 run : IsWholeProgramRun pieces_program (pos 2 ∷ [])
-run = record { run = record { within = within; accepted = refl; local = refl; numbers = (omega (arith, ints), tt) }; free = refl }
+run = record { run = record { within = within; accepted = refl; local = refl; numbers = (omega (arith, ints), tt) }; fields = refl }
 
 pub pieces_example_holds : PiecesExampleHolds
 pieces_example_holds = record { run = run; sound = whole_programs_are_sound pieces_program (pos 2 ∷ []) run }

@@ -184,5 +184,5 @@ pub whole_programs_are_sound : WholeProgramsAreSound
 whole_programs_are_sound tree inputs p = begun_soundly (forms_by true true tree (task_named tree (entry_name tree))) tree inputs
     (handing tree p.run.accepted (local_tasks tree inputs p.run)
     (program_few tree (items_kept tree inputs p.run) (local_few tree inputs p.run)
-    (program_whole tree (λ t. forms_by true true tree t) (λ t. refl) (λ k t at. (local_tasks tree inputs p.run k t at).typed) p.free))
+    (program_whole tree (λ t. forms_by true true tree t) (λ t. refl) (λ k t at. (local_tasks tree inputs p.run k t at).typed) p.fields))
     (local_goals tree inputs p.run)) (local_run tree inputs p.run)

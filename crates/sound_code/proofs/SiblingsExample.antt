@@ -11,7 +11,7 @@ within : WithinLimits siblings_program
 within = record { each = all_keep (parts_of_program siblings_program) refl; nodes = omega (arith) }
 
 run : IsWholeProgramRun siblings_program (pos 2 ∷ [])
-run = record { run = record { within = within; accepted = refl; local = refl; numbers = (omega (arith, ints), tt) }; free = refl }
+run = record { run = record { within = within; accepted = refl; local = refl; numbers = (omega (arith, ints), tt) }; fields = refl }
 
 pub siblings_example_holds : SiblingsExampleHolds
 siblings_example_holds = record { run = run; sound = whole_programs_are_sound siblings_program (pos 2 ∷ []) run }

@@ -12,7 +12,7 @@ within : WithinLimits follows_program
 within = record { each = all_keep (parts_of_program follows_program) refl; nodes = omega (arith) }
 
 run : IsWholeProgramRun follows_program (pos 2 ∷ [])
-run = record { run = record { within = within; accepted = refl; local = refl; numbers = (omega (arith, ints), tt) }; free = refl }
+run = record { run = record { within = within; accepted = refl; local = refl; numbers = (omega (arith, ints), tt) }; fields = refl }
 
 pub whole_example_holds : WholeExampleHolds
 whole_example_holds = record { run = run; sound = whole_programs_are_sound follows_program (pos 2 ∷ []) run }
@@ -21,7 +21,7 @@ circuit_within : WithinLimits circuit_program
 circuit_within = record { each = all_keep (parts_of_program circuit_program) refl; nodes = omega (arith) }
 
 circuit_run : IsWholeProgramRun circuit_program []
-circuit_run = record { run = record { within = circuit_within; accepted = refl; local = refl; numbers = tt }; free = refl }
+circuit_run = record { run = record { within = circuit_within; accepted = refl; local = refl; numbers = tt }; fields = refl }
 
 pub circuit_is_sound : CircuitIsSound
 circuit_is_sound = record { run = circuit_run; sound = whole_programs_are_sound circuit_program [] circuit_run }

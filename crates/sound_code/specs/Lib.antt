@@ -1,6 +1,6 @@
 pub mod Ways
 pub mod Named
-pub mod FreeCalls
+pub mod FilledFields
 pub mod Programs
 pub mod Example
 pub mod RulesExample

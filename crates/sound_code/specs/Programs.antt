@@ -35,7 +35,7 @@ use Rattle.fit_rules.specs.Sound.{IsSound}
 use Rattle.fit_laws.specs.Segments.{PassesTest}
 use Rattle.check_rules.specs.Breaches.{breaches}
 use Rattle.fit_rules.specs.Marks.{Holds}
-use Rattle.sound_code.specs.FreeCalls.{is_free_program}
+use Rattle.sound_code.specs.FilledFields.{names_fields}
 use Rattle.sound_code.specs.Ways.{by_rules, none_begun, opening_facts, shape_in, shape_of}
 
 -- the entry task's code
@@ -183,7 +183,7 @@ LocalProgramsAreSound = (tree : Tree) (inputs : List ℤ) → IsPlainProgramRun 
 -- one of the whole local form, whose fills each name a field, as those of a text do
 pub record IsWholeProgramRun (tree : Tree) (inputs : List ℤ) : Type 0 where
   pub run : IsLocalProgramRun tree inputs
-  pub free : is_free_program tree ≡ true
+  pub fields : names_fields tree ≡ true
 
 -- so it is of each such program
 abbrev pub WholeProgramsAreSound : Type 0

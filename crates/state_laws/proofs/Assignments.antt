@@ -274,7 +274,7 @@ module _ (task : TaskTree) where
       (parts_of_form h.tree task h.scope r.place.sound r.place.scope (fill_form n fs y) e).4 in
       let spaced = subst (IsSpaced h.tree h.scope.names) region.is (name_spaced task roots h r.place n both.0) in
       then_fits h.tree roots r.place.rooted h.scope.names h.scope.names h.result (value h y u) (λ v. named_value h n >>= λ a. fill_fields h (typed h y) v (type_named h.scope.names n) (region_of a) fs)
-      (evaluates task roots h r y wr (all_right KeepsLimit (nodes fs) (parts_of_expression y) limits) told u st) (λ v w st got.
+      (evaluates task roots h r y wr.0 (all_right KeepsLimit (nodes fs) (parts_of_expression y) limits) told u st) (λ v w st got.
       let a = get_or w.names (bound_to h.scope.names n).place (a_truth false) in
       let named_fits = subst (λ (c : Bound). Fits roots h.scope.names c.static_type (get_or w.names c.place (a_truth false)))
       (found_by_number h.scope.next h.scope.names n r.place.scope.numbers both.0).0 (st.names (bound_to h.scope.names n).number) in

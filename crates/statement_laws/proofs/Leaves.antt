@@ -223,7 +223,7 @@ module _ (task : TaskTree) (args : List Value) (roots : ℕ) where
       let there = fields_there h.tree h.scope.names n region.kind region.space region.arguments region.term fs region.is named.1 in
       let lacking = subst (λ t. lacks h.tree task h.scope (flat_map (wanted_of_region h.tree Write t) fs) ≡ false) region.is parts.writes in
       then_goes (inst h) m h.scope h.scope.next h.scope (value h y u) (λ v. named_value h n >>= λ a. fill_fields h (typed h y) v (type_named h.scope.names n) (region_of a) fs)
-      (evaluates task args roots h m y r wr (option_or_parts (first_in_expression h.tree task h.scope y) _ parts.heads).0 u st) (λ v w st is.
+      (evaluates task args roots h m y r wr.0 (option_or_parts (first_in_expression h.tree task h.scope y) _ parts.heads).0 u st) (λ v w st is.
       let a = get_or w.names (bound_to h.scope.names n).place (a_truth false) in
       let fits = (named_fits h.scope r.scope m w.names st.names n both.0).is_of in
       let stands = region_stands m region.kind region.space region.arguments region.term a (subst (λ t. IsOfType m t a) region.is fits) in

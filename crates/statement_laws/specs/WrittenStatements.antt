@@ -1,8 +1,13 @@
--- Statements as the reader gives them: each of their expressions is one that can be written.
-use Rattle.std.specs.Prelude.{None, Some}
+-- Statements as the reader gives them: each of their expressions is one that can be written, and each fill names a field.
+use Rattle.std.specs.Prelude.{Bool, false, List, [], ◌∷◌, None, Some, true, ◌≡◌}
 use Rattle.check_rules.specs.scopes.Sound.{StandsIn}
-use Rattle.regent_tree.specs.Syntax.{Arms, Block, Form, Otherwise, Initializer, TaskTree, Tree, a_statement, an_arm, assert_form, assign_form, by_field_initializer, call_form, do_form, else_block, equal_initializer, fill_form, for_in_form, for_to_form, if_form, no_arm, no_else, no_statement, plain_initializer, print_form, region_initializer, return_form, then_statement, var_form, while_form}
+use Rattle.regent_tree.specs.Syntax.{Arms, Block, Form, Otherwise, Initializer, TaskTree, Tree, a_statement, an_arm, assert_form, assign_form, by_field_initializer, call_form, do_form, else_block, equal_initializer, fill_form, for_in_form, for_to_form, if_form, Name, no_arm, no_else, no_statement, plain_initializer, print_form, region_initializer, return_form, then_statement, var_form, while_form}
 use Rattle.expression_laws.specs.Writing.{AreStepped, AreWritten, IsWritten}
+
+-- whether a field is named
+abbrev pub names_field : List Name → Bool
+names_field [] = false
+names_field (f ∷ fs) = true
 
 abbrev pub IsWrittenInitializer : Initializer → Type 0
 IsWrittenInitializer (region_initializer e u) = IsWritten e
@@ -20,7 +25,7 @@ abbrev mutual
   IsWrittenForm (for_in_form demanded n domain body) = IsWritten domain × IsWrittenBlock body
   IsWrittenForm (for_to_form demanded n from to body) = IsWritten from × IsWritten to × IsWrittenBlock body
   IsWrittenForm (do_form body) = IsWrittenBlock body
-  IsWrittenForm (fill_form r fields e) = IsWritten e
+  IsWrittenForm (fill_form r fields e) = IsWritten e × (names_field fields ≡ true)
   IsWrittenForm (assert_form e) = IsWritten e
   IsWrittenForm (print_form alias format args) = AreWritten args
   IsWrittenForm (call_form task args) = AreWritten args

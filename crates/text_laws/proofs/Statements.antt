@@ -1,5 +1,5 @@
 -- Each production of statements and items writes.
-use Rattle.std.proofs.Common.{◌≡◌, List, [], ◌∷◌, ◌++◌, Option, Some, None, subst}
+use Rattle.std.proofs.Common.{◌≡◌, List, [], ◌∷◌, ◌++◌, Option, Some, None, refl, subst}
 use Rattle.std.specs.Prelude.{codes}
 use Rattle.regent_tree.specs.declared.types.TypeTerm.{TypeTerm}
 use Rattle.regent_tree.specs.Syntax.{Block, Expression, Initializer, Name, Statement, a_statement, return_form, var_form}
@@ -10,6 +10,7 @@ use Rattle.regent_grammar.specs.declared.symbol.Symbol.TheVariants as symbol
 use Rattle.regent_grammar.specs.Items as item
 use Rattle.regent_grammar.specs.Nodes.{Armed, arms_from, block_from, otherwise_from, returning_from}
 use Rattle.regent_grammar.specs.Rules.{Sort, Value, a_block, an_expression}
+use Rattle.regent_grammar.specs.Singles as single
 use Rattle.regent_grammar.specs.Statements as stmt
 use Rattle.regent_grammar.specs.Types as type
 use Rattle.statement_laws.specs.WrittenStatements.{AreWrittenArms, IsWrittenBlock, IsWrittenElse, IsWrittenForm}
@@ -87,16 +88,20 @@ variable' =
     ⊛' word' word.Var ⊳' name' ⊛' maybe' (mark' mark.Colon ⊳' type_term')
     ⊛' maybe' (mark' mark.Assign ⊳' initializer')
 
-fields' : Writes (Sort.listed Sort.bytes) stmt.fields
+names' : Writes Sort.names single.names
+unfolding single.names
+names' = write_gives (λ x h xs k. refl) ⊛' name' ⊛' write_many (mark' mark.Comma ⊳' name')
+
+fields' : Writes Sort.names stmt.fields
 unfolding stmt.fields
 fields' =
-    write_when (mark' mark.OpenBrace ⊳' separated' name' ⊲' mark' mark.CloseBrace)
-    (write_gives (λ x h. (tt, tt)) ⊛' name')
+    write_when (mark' mark.OpenBrace ⊳' names' ⊲' mark' mark.CloseBrace)
+    (write_gives (λ x h. refl) ⊛' name')
 
 filling' : Writes Sort.form stmt.filling
 unfolding stmt.filling
 filling' =
-    write_gives (λ r h fs k e l. l)
+    write_gives (λ r h fs k e l. (l, k))
     ⊛' word' word.Fill ⊳' mark' mark.Open ⊳' name'
     ⊛' mark' mark.Dot ⊳' fields' ⊛' mark' mark.Comma ⊳' expression' ⊲' mark' mark.Close
 

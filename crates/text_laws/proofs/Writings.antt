@@ -1,5 +1,5 @@
 -- A rule writes where what it spells is as the reader gives it; and each rule writes that is made of rules that write.
-use Rattle.std.proofs.Common.{◌≡◌, ℕ, List, [], ◌∷◌, Option, Some, None}
+use Rattle.std.proofs.Common.{◌≡◌, ℕ, true, List, [], ◌∷◌, Option, Some, None}
 use Rattle.regent_tree.specs.Syntax.{ItemForm, Statement, a_statement, task_item}
 use Rattle.regent_lex.specs.contracts.tables.Mark as mark_contract
 use Rattle.regent_lex.specs.contracts.tables.Word as word_contract
@@ -13,7 +13,7 @@ use Rattle.regent_grammar.specs.Rules.{Nonterminal, Rule, Sort, Value, both, giv
 use Rattle.regent_grammar.specs.Singles.{a_mark, a_word, arguments, in_parentheses, maybe_listed, name, named, separated, text, the_text}
 use Rattle.regent_grammar.specs.Symbols.{Test}
 use Rattle.expression_laws.specs.Writing.{AreStepped, IsWritten}
-use Rattle.statement_laws.specs.WrittenStatements.{IsWrittenBlock, IsWrittenForm, IsWrittenInitializer}
+use Rattle.statement_laws.specs.WrittenStatements.{IsWrittenBlock, IsWrittenForm, IsWrittenInitializer, names_field}
 
 abbrev pub IsWrittenStep : Stepped → Type 0
 IsWrittenStep (by_field n) = Unit {0}
@@ -28,6 +28,7 @@ IsWrittenItem form = Unit {0}
 
 -- what is written as it should be, of each sort
 abbrev pub Written : (s : Sort) → Value s → Type 0
+Written Sort.names x = names_field x ≡ true
 Written Sort.joined x = IsWritten x.operand
 Written Sort.step x = IsWrittenStep x
 Written Sort.accessed x = AreStepped x.steps

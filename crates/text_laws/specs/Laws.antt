@@ -10,7 +10,7 @@ use Rattle.statement_laws.specs.Opened.{Call, Makes, Opened, Opens, run_of_opene
 use Rattle.statement_laws.specs.Watching.{IsWithinPrivileges, keeps_privileges}
 use Rattle.statement_laws.specs.WrittenStatements.{AreWrittenTasks}
 
--- in each tree that is read a prefix has a sign
+-- in each tree that is read a prefix has a sign, and a fill names a field
 abbrev pub ReadTreesAreWritten : Type 0
 ReadTreesAreWritten = (text : List ℕ) (tree : Tree) → Reads text (Ok tree) → AreWrittenTasks tree
 

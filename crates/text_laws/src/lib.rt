@@ -6,7 +6,7 @@
 ghost use Rattle.text_laws.specs.Example.{ExampleIsRead};
 ghost use Rattle.text_laws.specs.Laws.{CallsOfTextsLieWithin, OpenedByTextsAreCovered, ReadTreesAreWritten, TextsKeepPrivileges};
 
-/// In each tree that is read a prefix has a sign.
+/// In each tree that is read a prefix has a sign, and a fill names a field.
 pub fn read_trees_are_written()
     ensures { ReadTreesAreWritten }
 {}
