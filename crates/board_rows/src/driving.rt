@@ -78,7 +78,7 @@ pub fn drive(alloc: Global, board: &mut Board, order: Order) -> Result<bool, All
             return Ok(true);
         }
         fill(board, order, &mut held)?;
-        let next = order.next(held.len());
+        let next = order.next(held.as_slice());
         if next >= held.len() {
             return Ok(false);
         }

@@ -2,7 +2,7 @@
 //!
 //! The table comes on the standard input. A line `== NAME` begins a program of that name; where `: NUMBERS` follow, they are
 //! its inputs. The lines up to the next such line are its text. Each program is run in order, and on a board in each of
-//! five orders of claims and gives; a run that another board's claim is answered with is given to each board, too.
+//! six orders of claims and gives; a run that another board's claim is answered with is given to each board, too.
 #![tactic(auto)]
 
 mod driving;

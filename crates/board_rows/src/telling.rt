@@ -95,7 +95,7 @@ fn push_image(alloc: Global, told: &mut String, image: &RootImage) -> Result<(),
     Ok(())
 }
 
-/// Whether a board that is driven in an order has the outcome, and how many steps of each kind it made.
+/// Whether a board that is driven in an order has the outcome, and how many steps of each kind it made, but for examples.
 fn steps(alloc: Global, row: &Row, order: Order, outcome: &Outcome) -> Result<String, AllocError> {
     let Some(job) = row.job(alloc)? else {
         return String::from_str(alloc, "refused");
@@ -109,6 +109,9 @@ fn steps(alloc: Global, row: &Row, order: Order, outcome: &Outcome) -> Result<St
         None => false,
     };
     let word = if same { "same" } else { "another outcome" };
+    if row.name().starts_with("example_") {
+        return String::from_str(alloc, word);
+    }
     format!(in alloc;
         "{word}, {} claims, {} copies, {} gives, {} backs",
         count(&board, StepKind::Claim),

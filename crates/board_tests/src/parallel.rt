@@ -1,10 +1,12 @@
 //! Jobs that are run by workers and in order.
 
-use crate::workers::job;
+use crate::workers::{job, job_with};
 use parallel_run::{Ran, run_job};
 use plain_run::run_in_order;
+use plain_values::Sequence;
 use run_journal::journal_read;
 use std::test::Fail;
+use task_code::{Instr, PrintPart};
 use worker_gate::OpenGate;
 
 #[test]
@@ -53,6 +55,30 @@ fn traces(rt: HostRuntime) -> Result<(), Fail> {
         ),
     ] {
         assert_eq!(rt; str::from_utf8(ran.trace_text(alloc)?.as_slice())?, wanted);
+    }
+    Ok(())
+}
+
+/// A task that gives no value counts as one that gives 0, in order and by workers.
+#[test]
+fn an_awaited_task_gives_no_value(rt: HostRuntime) -> Result<(), Fail> {
+    let alloc = rt.alloc();
+    let mut parts = Sequence::new(alloc);
+    parts.push(PrintPart::Number)?;
+    let mut main = Vec::new(alloc);
+    main.push(Instr::Call(1, 0))?;
+    main.push(Instr::Store(0))?;
+    main.push(Instr::Load(0))?;
+    main.push(Instr::Print(parts))?;
+    main.push(Instr::Return)?;
+    let job = job_with(alloc, main)?;
+    for workers in [0, 1, 4] {
+        let ran = run_job(&rt, alloc, &job, workers, &OpenGate)?;
+        let printed = match ran.outcome() {
+            Some(outcome) => outcome.text.as_slice() == b"0".as_slice(),
+            None => false,
+        };
+        assert!(rt; printed, "{workers} workers");
     }
     Ok(())
 }

@@ -19,7 +19,7 @@ use task_machine::run_segment;
 use worker_gate::{OpenGate, PairGate};
 use worker_run::run_by_workers;
 
-/// A task without parameters, with these instructions.
+/// A task without parameters, with these instructions and one slot.
 fn task(alloc: Global, instrs: Vec<Instr>) -> Result<TaskCode, AllocError> {
     let mut body = Sequence::new(alloc);
     for instr in instrs {
@@ -29,7 +29,7 @@ fn task(alloc: Global, instrs: Vec<Instr>) -> Result<TaskCode, AllocError> {
         params: 0,
         result: false,
         needs: Sequence::new(alloc),
-        slots: 0,
+        slots: 1,
         body,
     })
 }
@@ -42,6 +42,11 @@ pub fn job(alloc: Global, calls: u32) -> Result<Job, AllocError> {
         main.push(Instr::Drop)?;
     }
     main.push(Instr::Return)?;
+    job_with(alloc, main)
+}
+
+/// A job with this main, beside which there is a task that does nothing.
+pub fn job_with(alloc: Global, main: Vec<Instr>) -> Result<Job, AllocError> {
     let mut nothing = Vec::new(alloc);
     nothing.push(Instr::Return)?;
     let mut tasks = Sequence::new(alloc);

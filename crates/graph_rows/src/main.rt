@@ -78,7 +78,10 @@ fn print_histories<L: Ledger>(rt: &HostRuntime, steps: &mut Steps<L>) -> io::Res
     }
     println!(rt; "== {HISTORIES} histories of both finders")?;
     println!(rt; "with the same answers: {same}")?;
-    println!(rt; "with operations that were told: {some}")
+    println!(rt;
+        "with operations that were told in most of them: {}",
+        some > HISTORIES / 2
+    )
 }
 
 /// Prints all that is told.

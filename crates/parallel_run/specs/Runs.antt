@@ -1,11 +1,14 @@
 -- How a job ran, and what it came to.
-use Rattle.std.specs.Prelude.{◌≡◌, ◌++◌, ◌∷◌, ℕ, List, [], Option, Some, codes, true}
+use Rattle.std.specs.Prelude.{◌≡◌, ◌++◌, ◌∷◌, ℕ, List, [], None, Option, Some, codes, true}
 use Rattle.regent_tree.specs.declared.outcome.Outcome.{Outcome}
 use Rattle.task_code.specs.declared.job.Job.{Job}
 use Rattle.run_journal.specs.Journals.{text_of}
 use Rattle.board_terms.specs.Outcomes.{result}
 use Rattle.board_terms.specs.Replays.{replay}
 use Rattle.board_terms.specs.Stages.{has_finished}
+use Rattle.task_core.specs.Boards.{Standing}
+use Rattle.parallel_run.specs.declared.origin.Origin.{Origin}
+use Rattle.parallel_run.specs.declared.origin.Origin.TheVariants as origin
 use Rattle.parallel_run.specs.declared.ran.Ran.{Ran}
 use Rattle.parallel_run.specs.declared.ran.Ran.TheVariants.{ByWorkers, InOrder, NoResult, OtherJob}
 
@@ -25,6 +28,20 @@ HasEnded ran = Unit {0}
 abbrev pub IsOfJob : Job → Ran → Type 0
 IsOfJob job (ByWorkers board) = board.job ≡ job
 IsOfJob job ran = Unit {0}
+
+-- Where the outcome of a run is from that workers left: the board, where it is of the job and has finished; a run in order,
+-- where it is of the job and has no result; and a run in order, where it is of another job.
+abbrev pub IsFrom : Job → Standing → Origin → Type 0
+IsFrom job board origin.Board = (board.job ≡ job) × (has_finished board.state ≡ true)
+IsFrom job board origin.NoResult = (board.job ≡ job) × (result board.state ≡ None)
+IsFrom job board origin.OtherJob = ¬ (board.job ≡ job)
+
+-- a run by workers tells that
+abbrev pub CameFrom : Job → Standing → Ran → Type 0
+CameFrom job board (InOrder outcome) = ⊥
+CameFrom job board (ByWorkers used) = IsFrom job board origin.Board × (used ≡ board)
+CameFrom job board (OtherJob outcome) = IsFrom job board origin.OtherJob
+CameFrom job board (NoResult outcome) = IsFrom job board origin.NoResult
 
 -- no worker was asked for
 abbrev pub IsInOrder : Ran → Type 0

@@ -2,8 +2,9 @@
 
 ghost use Rattle.std.specs.Prelude.{◌≡◌, ◌↔◌, IfOk, Some};
 ghost use Rattle.machine_terms.specs.Jobs.{order_run};
-ghost use Rattle.parallel_run.specs.Runs.{HasEnded, IsInOrder, IsOfJob, outcome_of};
+ghost use Rattle.parallel_run.specs.Runs.{CameFrom, HasEnded, IsInOrder, IsOfJob, outcome_of};
 
+use crate::origin::{Origin, origin_of};
 use crate::ran::Ran;
 use plain_run::run_in_order;
 use std::alloc::{AllocError, Global};
@@ -41,13 +42,11 @@ fn use_board(alloc: Global, job: &Job, board: Board) -> Result<Ran, AllocError>
     ensures ended { IfOk result (λ ran. HasEnded ran) }
     ensures outcome { IfOk result (λ ran. outcome_of ran ≡ Some (order_run job.now)) }
     ensures job { IfOk result (λ ran. IsOfJob job.now ran) }
-    ensures by_workers { IfOk result (λ ran. ¬ (IsInOrder ran)) }
+    ensures from { IfOk result (λ ran. CameFrom job.now board ran) }
 {
-    if !board.job().same(job) {
-        Ok(Ran::OtherJob(run_in_order(alloc, job)?))
-    } else if board.result().is_some() {
-        Ok(Ran::ByWorkers(board))
-    } else {
-        Ok(Ran::NoResult(run_in_order(alloc, job)?))
+    match origin_of(job, &board) {
+        Origin::OtherJob => Ok(Ran::OtherJob(run_in_order(alloc, job)?)),
+        Origin::NoResult => Ok(Ran::NoResult(run_in_order(alloc, job)?)),
+        Origin::Board => Ok(Ran::ByWorkers(board)),
     }
 }

@@ -6,6 +6,7 @@ ghost use Rattle.machine_terms.specs.Contents.{image_in, image_of};
 ghost use Rattle.machine_terms.specs.Jobs.{ending_of, first_frame, may_start, outcome, void_outcome};
 ghost use Rattle.machine_terms.specs.declared.value.Value.TheVariants as value;
 
+use crate::copies::copy_image;
 use crate::frames::opening;
 use machine_terms::{Contents, Ended, Frame, Root, Value};
 use plain_values::Sequence;
@@ -72,29 +73,6 @@ fn image_in(alloc: Global, roots: &[Root], root: RootId) -> Result<RootImage, Al
         count: 0,
         fields: Sequence::new(alloc),
     })
-}
-
-fn copy_image(alloc: Global, image: &RootImage) -> Result<RootImage, AllocError>
-    ensures { IfOk result (λ copy. copy ≡ image.now) }
-{
-    Ok(RootImage {
-        space: image.space,
-        count: image.count,
-        fields: copy_columns(alloc, image.fields.as_slice())?,
-    })
-}
-
-fn copy_columns(
-    alloc: Global,
-    columns: &[Sequence<i64>],
-) -> Result<Sequence<Sequence<i64>>, AllocError>
-    ensures { IfOk result (λ copy. copy ≡ columns.now) }
-{
-    let mut copy = Sequence::new(alloc);
-    for column in columns {
-        copy.push(column.copy()?)?;
-    }
-    Ok(copy)
 }
 
 /// The outcome of a job without a task to start with.

@@ -22,6 +22,7 @@ mod text;
 mod verdict;
 
 pub use laws::{runs_come_to_an_end, texts_have_one_status};
+pub use parallel_run::{Origin, Settled, settle_run};
 pub use program::{regent_here, regent_main};
 use run_io::{Sink, Source};
 use served::{alone, with_workers};

@@ -1,6 +1,6 @@
 //! Runs that are planned, by workers or in order, and what they come to.
 
-ghost use Rattle.std.specs.Prelude.{◌≡◌, ◌↔◌, ◌++◌, ℕ, IfOk, List, Some, true};
+ghost use Rattle.std.specs.Prelude.{◌≡◌, ◌<◌, ◌≤◌, ◌↔◌, ◌++◌, ℕ, IfOk, List, Some, true};
 ghost use Rattle.code_laws.specs.LocalPrograms.{IsEnded};
 ghost use Rattle.machine_terms.specs.Jobs.{order_run};
 ghost use Rattle.parallel_run.specs.Runs.{outcome_of};
@@ -125,7 +125,9 @@ fn settled(alloc: Global, plan: &Plan, ran: &Ran) -> Result<Verdict, AllocError>
 
 /// As many seats as workers are asked for, but 64 at most.
 fn seats_for(workers: u64) -> u16
-    ensures { (result ≡ 0) ↔ (workers ≡ 0) }
+    ensures few { workers < 64 → result ≡ workers }
+    ensures most { 64 ≤ workers → result ≡ 64 }
+    ensures none { (result ≡ 0) ↔ (workers ≡ 0) }
 {
     if workers < MOST_WORKERS {
         workers as u16

@@ -6,4 +6,4 @@ pub returns : goal.returns
 returns g c =
     ok_on c.settled.result
     (λ v h. plan_told all_serve c.args.plan.now c.in_ok-ran.ran v c.in_ok-ran.ensures.ended c.in_ok-ran.ensures.job
-    (λ is. c.seats_for.ensures.0 (c.in_ok-ran.ensures.in_order.0 is), λ none. c.in_ok-ran.ensures.in_order.1 (c.seats_for.ensures.1 none)) h) c.settled.ensures
+    (λ is. c.seats_for.ensures.none.0 (c.in_ok-ran.ensures.in_order.0 is), λ none. c.in_ok-ran.ensures.in_order.1 (c.seats_for.ensures.none.1 none)) h) c.settled.ensures
