@@ -1,5 +1,5 @@
 -- Up from an operation by its callers, and down its way in the tree, to its children.
-use Rattle.std.proofs.Common.{◌≡◌, ◌<◌, ◌⊎◌, ◌++◌, ◌∷◌, ◌∙◌, ℕ, zero, suc, List, Option, Some, [], ap, arith, eqb-true, false, inr, length, refl, subst, sym, true}
+use Rattle.std.proofs.Common.{◌≡◌, ◌<◌, ◌≤◌, ◌⊎◌, ◌++◌, ◌∷◌, ◌∙◌, ℕ, zero, suc, List, Option, Some, [], ap, arith, eqb-true, false, inr, length, refl, subst, sym, true}
 use Rattle.std.specs.Prelude.{All, nat_eq, slice_get}
 use Rattle.std.specs.List.{Contains}
 use Rattle.std.proofs.lemmas.Bool.{and_parts}
@@ -76,9 +76,29 @@ module _ (job : Job) (s : State) (who : ℕ → ℕ) (ways : List (List ℕ)) wh
   abbrev pub IsCalled : ℕ → List RootId → Node G → Type 0
   IsCalled k above n = (k ≡ 0) ⊎ ((j : ℕ) × (later : List Sibling) × IsChild job s who ways j k × (has_ended s.waits.knots k ≡ false → IsListed job s who above j k (needs_issued job n) later))
 
-  -- a root that its caller made, or another above
+  -- a root that its caller made, or another above, which was issued before it
   abbrev pub IsOwned : ℕ → RootId → Type 0
-  IsOwned k r = (n : ℕ) × Contains (operation_at s (caller_up s (suc n) k)).frame.own r
+  IsOwned k r = (n : ℕ) × Contains (operation_at s (caller_up s (suc n) k)).frame.own r × (caller_up s (suc n) k < k)
+
+  -- callers are issued before those that they call
+  mutual
+    below : (way w : List ℕ) (j k : ℕ) (earlier : List Sibling) (above : List RootId) (n : Node G) → Shows job s who ways w j earlier above n → Leads job s j way k → j ≤ k
+    below [] w j k earlier above n h l = omega (arith, l)
+    below (c ∷ way) w j k earlier above (op D N i f ps st is) h l =
+        let less = below_among c way w j k 0 [] (above ++ (operation_at s j).frame.own) (operation_at s j).children is l.0 h.1 l.1 l.2 in
+        omega (arith, less)
+
+    below_among : (c : ℕ) (way w : List ℕ) (j k d : ℕ) (earlier : List Sibling) (roots : List RootId) (ks : List OpNumber) (is : Items G) (x : ℕ) → ShowsChildren job s who ways w j d earlier roots ks is →
+        slice_get ks c ≡ Some (number x) → Leads job s x way k → j < k
+    below_among c way w j k d earlier roots ks no_item x h e l = absurd (none-some (number x) (ap (λ ks. slice_get ks c) (sym h) ∙ e))
+    below_among c way w j k d earlier roots ks (said t is) x h e l = below_among c way w j k d earlier roots ks is x h e l
+    below_among c way w j k d earlier roots [] (child_op n is) x h e l = absurd h
+    below_among zero way w j k d earlier roots (y ∷ ys) (child_op n is) x h e l =
+        let later = h.0.later in
+        let at_least = below way (w ++ d ∷ []) y.0 k earlier roots n h.1 (subst (λ (z : OpNumber). Leads job s z.0 way k) (sym (some_same y (number x) e)) l) in
+        omega (arith, later, at_least)
+    below_among (suc c) way w j k d earlier roots (y ∷ ys) (child_op n is) x h e l =
+        below_among c way w j k (suc d) (earlier ++ record { op = y.0; needs = needs_issued job n } ∷ []) roots ys is x h.2 e l
 
   -- a way leads to it
   pub record Reached (k : ℕ) (o : Option (Node G)) : Type 0 where
@@ -110,10 +130,11 @@ module _ (job : Job) (s : State) (who : ℕ → ℕ) (ways : List (List ℕ)) wh
       reached (c ∷ way) w j k earlier above (op D N i f ps st is) h m o r l =
           let own = (operation_at s j).frame.own in
           let up = climbs_among c way w j k 0 [] (above ++ own) (operation_at s j).children is l.0 h.1 l.1 l.2 in
+          let less = below_among c way w j k 0 [] (above ++ own) (operation_at s j).children is l.0 h.1 l.1 l.2 in
           reached_among c way w j k 0 [] (above ++ own) (operation_at s j).children is l.0 h.1 h.0.listed
           (All-append (λ (r : RootId). r.0 < length s.roots) above own m (own_made j))
           (All-append (IsOwned k) above own o (All-weaker (Contains own) (IsOwned k)
-          (λ r q. (length way, subst (λ z. Contains (operation_at s z).frame.own r) (sym up) q)) own (All-contains_itself own))) l.1 l.2
+          (λ r q. (length way, subst (λ z. Contains (operation_at s z).frame.own r) (sym up) q, subst (λ z. z < k) (sym up) less)) own (All-contains_itself own))) l.1 l.2
 
       reached_among : (c : ℕ) (way w : List ℕ) (j k d : ℕ) (earlier : List Sibling) (roots : List RootId) (ks : List OpNumber) (is : Items G) (x : ℕ) → ShowsChildren job s who ways w j d earlier roots ks is →
           AreListed job s who roots j (siblings job ks is) → WereMade roots → All (IsOwned k) roots → slice_get ks c ≡ Some (number x) → Leads job s x way k → Reached k (find_among G c way is)

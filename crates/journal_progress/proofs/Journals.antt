@@ -31,7 +31,7 @@ use Rattle.journal_results.proofs.Journals.{Pictured, gives_show, pictured}
 use Rattle.progress_boards.proofs.Jobs.{jobs_filled_from_map, jobs_held_apart, jobs_in_progress_apart, jobs_issued_needed, jobs_some_ready}
 use Rattle.journal_progress.specs.Claims.{IsAsBefore, IsWhereItWas, SomeMayBeClaimed, TakenBackAsBefore, TakenBackWhereItWas, claimed_by, copies_by}
 use Rattle.journal_progress.specs.Laws.{NoneInProgressInterfere, OwnRootsAreApart, UnfinishedAreListed}
-use Rattle.journal_progress.specs.Parts.{MovedFromMap, HeldPartsAreApart}
+use Rattle.journal_progress.specs.Parts.{MovedFromMap}
 use Rattle.journal_progress.proofs.Backs.{as_before, back_goes, claim_was_ready, is_claimed, replay_both}
 use Rattle.journal_progress.proofs.Between.{all_between, goes_back, is_taken, where_it_was}
 use Rattle.journal_progress.proofs.Filled.{filled_from_map}
@@ -44,16 +44,16 @@ use Rattle.journal_progress.proofs.Waited.{goes_on, idles, stands_parked, there,
 
 module _ (job : Job) where
   -- it shows a board to which steps lead, or is that of a void job
-  abbrev IsPictured : State → Type 0
+  abbrev pub IsPictured : State → Type 0
   IsPictured s = ((t : TaskCode) × Pictured gives_show job t s) ⊎ (void_state ≡ s)
 
   -- ---- void jobs
 
-  no_replay : (es : List Entry) → replay_from job None es ≡ None
+  pub no_replay : (es : List Entry) → replay_from job None es ≡ None
   no_replay [] = refl
   no_replay (e ∷ es) = no_replay es
 
-  void_refuses : (kind : StepKind) (k seat : ℕ) → step_of job void_state k seat kind ≡ None
+  pub void_refuses : (kind : StepKind) (k seat : ℕ) → step_of job void_state k seat kind ≡ None
   void_refuses Claim zero seat = refl
   void_refuses Claim (suc k) seat = refl
   void_refuses Copy zero seat = refl
@@ -90,20 +90,20 @@ module _ (job : Job) where
   by_start es s None found e = void_pictured es s e
   by_start es s (Some t) found e = by_may es s t found (may_start job t) refl e
 
-  is_pictured : (journal : List Entry) (s : State) → replay job journal ≡ Some s → IsPictured s
+  pub is_pictured : (journal : List Entry) (s : State) → replay job journal ≡ Some s → IsPictured s
   is_pictured journal s e = by_start journal s (slice_get job.code.tasks job.code.start) refl e
 
 -- ---- in the state of a void job all is over
 
-void_over : (k : ℕ) → is_over (stage_at void_state k) ≡ false → ⊥
+pub void_over : (k : ℕ) → is_over (stage_at void_state k) ≡ false → ⊥
 void_over zero e = false≢true (sym e)
 void_over (suc k) e = false≢true (sym e)
 
-void_children : (k : ℕ) (o : OpNumber) → Contains (operation_at void_state k).children o → ⊥
+pub void_children : (k : ℕ) (o : OpNumber) → Contains (operation_at void_state k).children o → ⊥
 void_children zero o c = omega (arith, c.1)
 void_children (suc k) o c = omega (arith, c.1)
 
-void_ready : (k : ℕ) → may_be_claimed void_state k ≡ true → ⊥
+pub void_ready : (k : ℕ) → may_be_claimed void_state k ≡ true → ⊥
 void_ready zero e = false≢true e
 void_ready (suc k) e = false≢true e
 
@@ -200,7 +200,7 @@ module _ (job : Job) where
       k goes x listed child still)
       (λ q. absurd (void_children k x.op (subst (λ z. Contains (operation_at z k).children x.op) (sym q) child))) (is_pictured job journal s e)
 
-  one_more : (journal : List Entry) (s : State) → replay job journal ≡ Some s → (x : Entry) (u : State) → stepped job s x ≡ Some u → replay job (journal ++ x ∷ []) ≡ Some u
+  pub one_more : (journal : List Entry) (s : State) → replay job journal ≡ Some s → (x : Entry) (u : State) → stepped job s x ≡ Some u → replay job (journal ++ x ∷ []) ≡ Some u
   one_more journal s e x u q = replay_both job journal (x ∷ []) (Some (opened job)) ∙ ap (λ o. replay_from job o (x ∷ [])) e ∙ q
 
   apart_behind : (journal : List Entry) (s : State) → replay job journal ≡ Some s → AllHoldApart s → (x : Entry) (u : State) → stepped job s x ≡ Some u → AllHoldApart u
@@ -219,7 +219,7 @@ module _ (job : Job) where
       by_step (Some u) r p more = more u r p
 
   -- at the start nothing was called
-  start_childless : (o : Option TaskCode) (k : ℕ) → (operation_at (opened_with job o) k).children ≡ []
+  pub start_childless : (o : Option TaskCode) (k : ℕ) → (operation_at (opened_with job o) k).children ≡ []
   start_childless None zero = refl
   start_childless None (suc k) = refl
   start_childless (Some t) k = chosen (may_start job t) k
@@ -233,8 +233,9 @@ module _ (job : Job) where
   start_apart : AllHoldApart (opened job)
   start_apart k x listed child still = absurd (no_child x.op (subst (λ ks. Contains ks x.op) (start_childless (slice_get job.code.tasks job.code.start) k) child))
 
-pub held_parts_are_apart : HeldPartsAreApart
-held_parts_are_apart job journal s e = all_apart job journal [] (opened job) refl (start_apart job) s e
+-- by the needs with which children were issued
+pub held_as_issued : (job : Job) (journal : List Entry) (s : State) → replay job journal ≡ Some s → AllHoldApart s
+held_as_issued job journal s e = all_apart job journal [] (opened job) refl (start_apart job) s e
 
 pub moved_from_map : MovedFromMap
 moved_from_map job journal s e k claim fill does = ⊎_elim

@@ -55,7 +55,7 @@ same_more [] more h j = inr (h j)
 same_more (x ∷ os) more h zero = inl refl
 same_more (x ∷ os) more h (suc j) = same_more os more h j
 
-called_childless : (parent : OpNumber) (fs : List Frame) (j : ℕ) → (get_or (map (called_by parent) fs) j no_operation).children ≡ []
+pub called_childless : (parent : OpNumber) (fs : List Frame) (j : ℕ) → (get_or (map (called_by parent) fs) j no_operation).children ≡ []
 called_childless parent [] j = refl
 called_childless parent (f ∷ fs) zero = refl
 called_childless parent (f ∷ fs) (suc j) = called_childless parent fs j
@@ -115,7 +115,7 @@ pub record WaitsStay (k : ℕ) (g h : Waits) : Type 0 where
   pub entries : (x : Listed) → Contains h.listing x → IsFrom g.listing x ⊎ (length g.knots ≤ x.op.0)
   pub past : (j : ℕ) → ¬ (j ≡ k) → j < length g.knots → is_past (knot_at g.knots j).stage ≡ true → is_past (knot_at h.knots j).stage ≡ true
 
-from_itself : (ls : List Listed) (x : Listed) → Contains ls x → IsFrom ls x
+pub from_itself : (ls : List Listed) (x : Listed) → Contains ls x → IsFrom ls x
 from_itself ls x c = record { one = x; there = c; op_is = refl; issued = refl }
 
 pub waits_itself : (k : ℕ) (g : Waits) → WaitsStay k g g
@@ -150,7 +150,7 @@ waits_set g k x = record {
 
 -- ---- calls
 
-inserted_entry : (e : Listed) (ls : List Listed) (x : Listed) → Contains (inserted e ls) x → (e ≡ x) ⊎ Contains ls x
+pub inserted_entry : (e : Listed) (ls : List Listed) (x : Listed) → Contains (inserted e ls) x → (e ≡ x) ⊎ Contains ls x
 inserted_entry e [] x c = contains_cases e [] x c
 inserted_entry e (l ∷ ls) x c = chosen (nat_lt e.op.0 l.op.0) (inserted_entry e ls x) c
   where
@@ -186,6 +186,14 @@ uncovered_from context n needs (l ∷ ls) x c = ⊎_elim
     chosen : (b : Bool) → IsFrom (l ∷ ls) (cond b (record l { needs = filter (λ (m : PlacedNeed). not (is_covered needs m)) l.needs }) l)
     chosen true = record { one = l; there = contains_first l ls; op_is = refl; issued = refl }
     chosen false = from_itself (l ∷ ls) l (contains_first l ls)
+
+pub covered_from : (context : ℕ) (ns : List Needs) (g : Waits) (n : ℕ) (x : Listed) → Contains (covered_each context ns g n).listing x → IsFrom g.listing x
+covered_from context [] g n x c = from_itself g.listing x c
+covered_from context (m ∷ ns) g n x c =
+    let next : Waits = record { knots = g.knots; listing = all_uncovered context n m.items g.listing } in
+    let later = covered_from context ns next (suc n) x c in
+    let f = uncovered_from context n m.items g.listing later.one later.there in
+    record { one = f.one; there = f.there; op_is = later.op_is ∙ f.op_is; issued = later.issued ∙ f.issued }
 
 each_covered : (k context : ℕ) (ns : List Needs) (g : Waits) (n : ℕ) → WaitsStay k g (covered_each context ns g n)
 each_covered k context [] g n = waits_itself k g
@@ -243,7 +251,7 @@ past_all ks j e =
     let some = give_up_each knot.Waiting knot.Dropped ks (points (length ks)) in
     past_each knot.Parked knot.Stopped (points (length ks)) some j (past_each knot.Waiting knot.Dropped (points (length ks)) ks j e)
 
-filtered_entry : (p : Listed → Bool) (ls : List Listed) (x : Listed) → Contains (filter p ls) x → Contains ls x
+pub filtered_entry : (p : Listed → Bool) (ls : List Listed) (x : Listed) → Contains (filter p ls) x → Contains ls x
 filtered_entry p [] x c = c
 filtered_entry p (l ∷ ls) x c = chosen (p l) (filtered_entry p ls x) c
   where

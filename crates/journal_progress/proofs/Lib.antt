@@ -1,12 +1,19 @@
+mod Shown
 mod Needs
 mod Listings
 mod Callers
 mod Places
+mod Siblings
+mod Awaited
+mod Readiness
 mod Own
 mod Progress
 mod Backs
 mod Kept
 mod Given
+mod Frames
+mod Stepped
+mod Grown
 mod Steps
 mod Busy
 mod Between
@@ -16,3 +23,7 @@ mod Filled
 mod Ready
 mod Waited
 mod Journals
+mod ReadyLaws
+mod NeedsLaws
+mod OwnHeld
+mod HeldLaws

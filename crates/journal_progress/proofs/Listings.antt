@@ -9,13 +9,18 @@ use Rattle.region_finder.specs.Listings.{AreRising, Listed, listed_ops}
 use Rattle.region_tree.specs.declared.tree.OpNumber.{OpNumber}
 use Rattle.dependence_graph.specs.Knots.{number}
 
-abbrev numbers_in : List OpNumber → List ℕ
+abbrev pub numbers_in : List OpNumber → List ℕ
 numbers_in ks = map (λ (k : OpNumber). k.0) ks
 
-op_there : (ls : List Listed) (x : Listed) → Contains ls x → has (numbers_in (listed_ops ls)) x.op.0 ≡ true
+pub op_there : (ls : List Listed) (x : Listed) → Contains ls x → has (numbers_in (listed_ops ls)) x.op.0 ≡ true
 op_there [] x c = absurd (omega (arith, c.1))
 op_there (l ∷ ls) x (zero, b, e) = ap (λ (y : Listed). has (numbers_in (listed_ops (l ∷ ls))) y.op.0) (sym e) ∙ has_head l.op.0 (numbers_in (listed_ops ls))
 op_there (l ∷ ls) x (suc i, b, e) = has_tail x.op.0 l.op.0 (numbers_in (listed_ops ls)) (op_there ls x (i, omega (arith, b), e))
+
+pub number_there : (ks : List OpNumber) (k : OpNumber) → Contains ks k → has (numbers_in ks) k.0 ≡ true
+number_there [] k c = absurd (omega (arith, c.1))
+number_there (x ∷ ks) k (zero, b, e) = ap (λ (y : OpNumber). has (numbers_in (x ∷ ks)) y.0) (sym e) ∙ has_head x.0 (numbers_in ks)
+number_there (x ∷ ks) k (suc i, b, e) = has_tail k.0 x.0 (numbers_in ks) (number_there ks k (i, omega (arith, b), e))
 
 by_number : (ls : List Listed) → AreRising (listed_ops ls) → (x y : Listed) → Contains ls x → Contains ls y → x.op.0 ≡ y.op.0 → x ≡ y
 by_number [] r x y c d e = absurd (omega (arith, c.1))
@@ -31,7 +36,7 @@ by_number (l ∷ ls) r x y (suc i, b, p) (zero, k, q) e =
 by_number (l ∷ ls) r x y (suc i, b, p) (suc j, k, q) e =
     by_number ls (rising_tail l.op.0 (numbers_in (listed_ops ls)) r) x y (i, omega (arith, b), p) (j, omega (arith, k), q) e
 
-of_numbers : (zs : List ℕ) → numbers_in (map number zs) ≡ zs
+pub of_numbers : (zs : List ℕ) → numbers_in (map number zs) ≡ zs
 of_numbers [] = refl
 of_numbers (z ∷ zs) = ap (λ ys. z ∷ ys) (of_numbers zs)
 

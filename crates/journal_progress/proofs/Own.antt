@@ -36,16 +36,16 @@ module _ (P Q : Requirement → Type 0) (differ : (a t : Requirement) → P a �
   none_meets a (t ∷ ts) p h = λ i. ap (λ b. b && (a.field == t.field) && in_conflict a.mode t.mode && meets a.points t.points)
       (ne_eqb a.root t.root (differ a t p (All-head Q t ts h))) i || none_meets a ts p (All-tail Q t ts h) i
 
-  none_meet : (list ts : List Requirement) → All P list → All Q ts → interfere list ts ≡ false
+  pub none_meet : (list ts : List Requirement) → All P list → All Q ts → interfere list ts ≡ false
   none_meet [] ts g h = refl
   none_meet (a ∷ list) ts g h = λ i. none_meets a ts (All-head P a list g) h i || none_meet list ts (All-tail P a list g) h i
 
-more_apart : (ours more theirs : List Requirement) → interfere ours theirs ≡ false → interfere more theirs ≡ false → interfere (ours ++ more) theirs ≡ false
+pub more_apart : (ours more theirs : List Requirement) → interfere ours theirs ≡ false → interfere more theirs ≡ false → interfere (ours ++ more) theirs ≡ false
 more_apart ours more theirs e f = list_any-append (λ a. list_any (conflict a) theirs) ours more ∙ (λ i. e i || f i)
 
 -- ---- a root that is among some
 
-found_root : (P : RootId → Type 0) (root : ℕ) (roots : List RootId) → list_any (λ (r : RootId). r.0 == root) roots ≡ true → All P roots → (r : RootId) × P r × (r.0 ≡ root)
+pub found_root : (P : RootId → Type 0) (root : ℕ) (roots : List RootId) → list_any (λ (r : RootId). r.0 == root) roots ≡ true → All P roots → (r : RootId) × P r × (r.0 ≡ root)
 found_root P root [] e h = absurd (false≢true e)
 found_root P root (r ∷ roots) e h = ⊎_elim
     (λ q. (r, All-head P r roots h, eqb-true r.0 root q))
@@ -93,7 +93,7 @@ module _ (job : Job) (s : State) (b : Board (regent_ground (spaces_of job.code))
 
   -- ---- roots are one operation's own
 
-  owner : (j k : ℕ) (r q : RootId) → Contains (operation_at s j).frame.own r → Contains (operation_at s k).frame.own q → r.0 ≡ q.0 → j ≡ k
+  pub owner : (j k : ℕ) (r q : RootId) → Contains (operation_at s j).frame.own r → Contains (operation_at s k).frame.own q → r.0 ≡ q.0 → j ≡ k
   owner j k r q c d e = ⊎_elim (λ same. same) (λ other.
       let all = All-contains (λ (o : RootId). All (λ (p : RootId). ¬ (o ≡ p)) (operation_at s k).frame.own) (operation_at s j).frame.own r (h.own_apart j k other) c in
       absurd (All-contains (λ (p : RootId). ¬ (r ≡ p)) (operation_at s k).frame.own q all d (λ i. record { 0 = e i }))) (cases_eq j k)

@@ -93,7 +93,7 @@ module _ (job : Job) where
             (ap not (sym (node_told job s h.who b.ways g.there.at k g.there.earlier g.there.above (op D N i f ps st is) r).is_over ∙ not_over (stage_at s k) e))
 
     -- main is above all
-    main_above : (k : ℕ) → At k → IsAbove s 0 k
+    pub main_above : (k : ℕ) → At k → IsAbove s 0 k
     main_above k g = (length g.way, climbs job s h.who b.ways g.way [] 0 k [] [] b.state.tree h.shows g.leads)
 
     -- where the one isn't above the other, its way doesn't begin the other's

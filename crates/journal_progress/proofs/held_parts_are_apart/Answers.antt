@@ -1,4 +1,4 @@
-use Rattle.journal_progress.proofs.Journals.{held_parts_are_apart}
+use Rattle.journal_progress.proofs.HeldLaws.{held_parts_are_apart}
 use Rattle.journal_progress.proofs.held_parts_are_apart.Goals as goal
 
 -- src/lib.rt
