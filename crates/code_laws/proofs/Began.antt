@@ -63,7 +63,7 @@ module _ (x : Setting) (params slots : ℕ) (fit : SlotsFit x slots) (aside : As
       v ≡ a_region q → get_or s.names b.place nothing ≡ a_region p → IsHad x (term_in b.static_type) p → IsUnder x.forms.takes h.scope.names s.names t v →
       BeganWithin y (where_of params h) (term_in t) b → Agrees x params slots aside h s i → IsSubregion q p
   began_lies h s i y t v b q p e region first second there under is g =
-      let n = subst (λ o. IsUnder o h.scope.names s.names t v) e under is.number is.whole q region is.named is.behind is.began first in
+      let n = (subst (λ o. IsUnder o h.scope.names s.names t v) e under).0 is.number is.whole q region is.named is.behind is.began first in
       let up = lies_up y h.scope.next h.scope.names s.names is.numbers (subst (λ o. AreUnder o h.scope.names s.names) e g.under) is.whole is.upper is.up n.whole
       (record { is = n.is; named = n.named }) in
       let top = bound_as h.scope.names is.upper in

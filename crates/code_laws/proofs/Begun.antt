@@ -88,7 +88,7 @@ module _ (x : Setting) (params slots : ℕ) (fit : SlotsFit x slots) (counts : C
   region_comes aside h t to i (fails f s) region c = c
 
   -- what it begins with is there, and the name is bound to it
-  begins_as : (aside : Aside) (h : Here) (n : Name) (t : Option TypeTerm) (start : Initializer) (s : State) (pc to : ℕ) (i : Instance) →
+  pub begins_as : (aside : Aside) (h : Here) (n : Name) (t : Option TypeTerm) (start : Initializer) (s : State) (pc to : ℕ) (i : Instance) →
       params ≤ length h.scope.names → IsLike (var_type h.tree h.scope t (Some start)) (initializer_type h.tree h.scope h.scope.next start) →
       (IsRegion (initializer_type h.tree h.scope h.scope.next start) →
       (term_in (initializer_type h.tree h.scope h.scope.next start) ≡ term.Name h.scope.next) × BeginsWhole x.forms.takes h.scope.next) →

@@ -12,6 +12,7 @@ use Rattle.code_laws.specs.Typed.{IsTypedBlock}
 use Rattle.code_laws.specs.CallExample.{CallExampleHolds, calls_program}
 use Rattle.code_laws.specs.Programs.{AreTypedTasks, IsTypedRun, IsTypedTask, call_forms, gives_nothing, gives_scalar}
 use Rattle.code_laws.specs.Simple.{number_integer, a_region_type, a_space_type, an_integer, fits_64, scalar_integer, simple_integer, two_integers}
+use Rattle.code_laws.specs.Pointers.{fills_alike, into_plain, zero_scalar}
 use Rattle.code_laws.specs.Standing.{of_integer}
 
 -- the entry task
@@ -24,7 +25,7 @@ main_typed = (
   (
     (
       two_integers _ _,
-      (refl, scalar_integer _, (refl, tt, tt, (tt, tt), (tt, tt)), (inl ((two_integers _ _, refl), (refl, simple_integer _)), tt)),
+      (refl, zero_scalar _ (scalar_integer _), (refl, tt, tt, (tt, tt), (tt, tt)), (inl ((two_integers _ _, refl), (refl, simple_integer _)), tt)),
       omega (arith, ints),
       number_integer _,
       refl,
@@ -38,7 +39,7 @@ main_typed = (
           two_integers _ _,
           (
             refl,
-            scalar_integer _,
+            zero_scalar _ (scalar_integer _),
             (refl, tt, tt, (tt, tt), (tt, tt)),
             (
               inl (
@@ -87,7 +88,7 @@ tasks zero t e = subst (IsTypedTask calls_program) (same_Some _ t e) (record {
       ),
       (
         (
-          two_integers _ _,
+          (into_plain _ _ (fills_alike _ _ (two_integers _ _)), zero_scalar _ (scalar_integer _)),
           (omega (arith, ints), number_integer _, refl, record { named = refl; region = a_region_type _ _ _ _; field = omega arith; keeps = fits_64 }, tt),
         ),
         tt,

@@ -10,11 +10,11 @@ use Rattle.regent_tree.proofs.Members.{Has, Has-from_Contains}
 use Rattle.regent_tree.specs.Accesses.{space_in}
 use Rattle.regent_tree.specs.Laws.{Shape}
 use Rattle.regent_tree.specs.Running.{Here, State}
-use Rattle.regent_tree.specs.Scopes.{bound_to, scope_of}
+use Rattle.regent_tree.specs.Scopes.{bound_to, scope_of, bound_as}
 use Rattle.regent_tree.specs.StaticTypes.{space_at, task_named}
 use Rattle.regent_tree.specs.Store.{no_root}
 use Rattle.regent_tree.specs.Syntax.{Expression, Expressions, Name, an_expr, no_expr}
-use Rattle.regent_tree.specs.Typing.{param_types, parent_of}
+use Rattle.regent_tree.specs.Typing.{param_types, parent_of, colour_of}
 use Rattle.regent_tree.specs.Values.{Partition, Region, Value, a_partition, a_region, a_truth, partition_of, region_of}
 use Rattle.regent_tree.specs.declared.facts.Term.{Term}
 use Rattle.regent_tree.specs.declared.facts.Term.TheVariants as term
@@ -33,10 +33,10 @@ use Rattle.memory_laws.specs.Touches.{Covers}
 use Rattle.fact_laws.specs.Regions.{LiesWithin}
 use Rattle.code_rules.specs.Programs.{task_code}
 use Rattle.code_rules.specs.Slots.{Where, typed}
-use Rattle.code_laws.specs.Arguments.{AreMet, AreOneColour, AreParted, BeganWithin, IsPartBelow, IsCutName, IsMet, IsMetAt, IsMetPart, IsParted, LiesBelow, IsPartedAt, name_at, one_name, one_number, parent_bound, part_at}
-use Rattle.code_laws.specs.Pointers.{Passes, passes_plain, passes_pointer}
+use Rattle.code_laws.specs.Arguments.{AreMet, AreOneColour, AreParted, BeganWithin, IsPartBelow, IsCutName, IsMet, IsMetAt, IsMetPart, IsParted, LiesBelow, IsPartedAt, name_at, one_name, one_number, parent_bound, part_at, IsPieceBelow, LandsIn}
+use Rattle.code_laws.specs.Pointers.{Passes, passes_plain, passes_pointer, IsOfName}
 use Rattle.code_laws.specs.Simple.{AreRegions, IsPartition, IsRegion, a_partition_type, term_in, two_regions}
-use Rattle.code_laws.specs.Standing.{Agrees, AreTaken, Aside, IsInside, IsOf, IsTaken, LiesIn, SlotsFit, Takes, machine_value, nothing, of_pointer, takes_partition, takes_pointer, takes_region, takes_value, where_of}
+use Rattle.code_laws.specs.Standing.{Agrees, AreTaken, Aside, IsInside, IsOf, IsTaken, LiesIn, SlotsFit, Takes, machine_value, nothing, of_pointer, takes_partition, takes_pointer, takes_region, takes_value, where_of, AreUnder}
 use Rattle.code_laws.specs.Steps.{Setting, Taking}
 use Rattle.code_laws.specs.Taking.{AreParts, MayDo, given_region, pairs_in, IsSubregion}
 use Rattle.code_laws.specs.Typed.{IsCallable}
@@ -49,9 +49,15 @@ use Rattle.code_laws.proofs.Handing.{AreGivenBy, IsGivenBy}
 use Rattle.code_laws.proofs.Parts.{colour_seen, cut_of, parent_inside, part_at_colour, part_lies_in, part_within, point_of}
 use Rattle.code_laws.proofs.Reaching.{a_region_there, field_there, kept_here, region_covered, region_had, region_lies_in}
 use Rattle.code_laws.proofs.Requiring.{covered_within, requirements_there}
-use Rattle.code_laws.proofs.Under.{under_named, under_numbered}
+use Rattle.code_laws.proofs.Under.{under_named, under_numbered, IsOfNumber, lies_up}
 use Rattle.code_laws.proofs.Values.{named}
 use Rattle.code_laws.proofs.Wider.{into_simple}
+use Rattle.code_laws.proofs.Pieced.{bound_there}
+use Rattle.code_laws.proofs.SeenColours.{bound_once, written_seen}
+use Rattle.regent_tree.specs.Lookup.{is_bound}
+use Rattle.regent_tree.specs.declared.typing.Bound.{Bound}
+use Rattle.check_laws.specs.SoundScopes.{Falls}
+use Rattle.check_laws.proofs.Scopes.{found_by_number}
 
 module _ (x : Setting) (params slots : ℕ) (fit : SlotsFit x slots) (aside : Aside) where
   abbrev AreGiven : Here → List StaticType → Expressions → List Value → List Value → Type 0
@@ -249,6 +255,62 @@ module _ (x : Setting) (params slots : ℕ) (fit : SlotsFit x slots) (aside : As
       ∙ sym (ap region_of (get_or_from_slice_get vs k c.value (a_truth false) c.at ∙ cc.is)) in
       subst (IsSubregion (given_region vs j)) same (refl, λ root point in_it. in_it)
 
+  -- a region lies within the part of a colour where it began as that one, or as a part of what lies within that
+  landed : (h : Here) (s : State) (i : Instance) (ps : List StaticType) (es : Expressions) (vs : List Value) (y : Taking) (lower k : ℕ) (q : Name × Expression) (r : Region) →
+      x.forms.takes ≡ Some y → IsOfNumber h.scope.names s.names lower r → LandsIn y (where_of params h) lower q → part_at es k ≡ Some q → AreGiven h ps es vs s.names →
+      Agrees x params slots aside h s i → IsSubregion r (given_region vs k)
+  landed h s i ps es vs y lower k q r e of l at a g =
+      let names = h.scope.names in
+      let falls = l.cut.numbers in
+      let under = subst (λ o. AreUnder o names s.names) e g.under in
+      let up = lies_up y h.scope.next names s.names falls under lower l.upper l.up r of in
+      let top = bound_as names l.upper in
+      let part = (under_numbered (Some y) h.scope.next names s.names l.upper falls under up.1.is.region).1 l.upper
+      ((bound_to names q.0).number, colour_of h.scope q.1) up.0 up.1.is.region up.1.named l.behind l.piece up.1.is.value in
+      let b = by_part x params slots fit aside h ps es vs s.names k q a at l.cut in
+      let c = b.coloured in
+      let same = bound_once h.scope.next names part.cut (bound_to names q.0) falls part.there (bound_there names q.0 l.cut.named) part.number in
+      let partitions : part.partition ≡ c.partition =
+      ap partition_of (sym part.has_it ∙ ap (λ (b : Bound). get_or s.names b.place nothing) same ∙ c.has_it) in
+      let seen = written_seen h q.1 s.names part.colour falls l.certain part.is_colour in
+      let colours : part.colour ≡ c.colour = ap nat_abs (sym seen.is ∙ c.seen seen.number seen.seen) in
+      let is : up.0 ≡ given_region vs k =
+      part.is ∙ ap (λ p. part_at_colour p part.colour) partitions ∙ ap (part_at_colour c.partition) colours
+      ∙ sym (ap region_of (get_or_from_slice_get vs k b.value (a_truth false) b.at ∙ c.is)) in
+      subst (IsSubregion r) is up.2
+
+  -- the region that a name has
+  named_number : (h : Here) (s : State) (n : Name) (r : Region) → is_bound h.scope.names n ≡ true → Falls h.scope.next h.scope.names → IsRegion (bound_to h.scope.names n).static_type →
+      term_in (bound_to h.scope.names n).static_type ≡ term.Name (bound_to h.scope.names n).number → (bound_to h.scope.names n).place < length h.scope.names →
+      get_or s.names (bound_to h.scope.names n).place nothing ≡ a_region r → IsOfNumber h.scope.names s.names (bound_to h.scope.names n).number r
+  named_number h s n r there falls region own low value =
+      let names = h.scope.names in
+      let number = (bound_to names n).number in
+      let is = subst (λ (b : Bound). IsOfName b (length names) s.names (space_in b.static_type) number r × (term_in b.static_type ≡ term.Name number))
+      (sym (found_by_number h.scope.next names n falls there).0)
+      (record { numbered = refl; region = region; space = refl; below = low; value = value }, own) in
+      record { is = is.0; named = is.1 }
+
+  piece_lies : (h : Here) (s : State) (i : Instance) (ps : List StaticType) (es : Expressions) (vs : List Value) (y : Taking) (j k : ℕ)
+      (o : Option Name) (p u : Option (Name × Expression)) → x.forms.takes ≡ Some y → name_at es j ≡ o → part_at es j ≡ p → part_at es k ≡ u →
+      IsPieceBelow y (where_of params h) o p u → AreGiven h ps es vs s.names → Agrees x params slots aside h s i → IsSubregion (given_region vs j) (given_region vs k)
+  piece_lies h s i ps es vs y j k (Some m) p (Some q) e at part there is a g =
+      let b = by_name x params slots fit aside h s i ps es vs j m at is.0.named is.0.region a g in
+      let low = (named IsOf h.scope.names s.names m g.typed is.0.named).below in
+      subst (λ r. IsSubregion r (given_region vs k)) (sym b.is)
+      (landed h s i ps es vs y (bound_to h.scope.names m).number k q b.region e
+      (named_number h s m b.region is.0.named is.0.numbers is.0.region is.1 low b.value) is.2 there a g)
+  piece_lies h s i ps es vs y j k None (Some p) (Some q) e at part there is a g =
+      let b = by_part x params slots fit aside h ps es vs s.names j p a part is.0 in
+      let c = b.coloured in
+      let d = cut_of x params slots fit aside h s i p.0 c.partition is.0 c.has_it g in
+      let whole = landed h s i ps es vs y (parent_of (bound_to h.scope.names p.0).static_type) k q d.parent e (record { is = d.is; named = is.1 }) is.2 there a g in
+      subst (λ r. IsSubregion r (given_region vs k)) (sym (ap region_of (get_or_from_slice_get vs j b.value (a_truth false) b.at ∙ c.is)))
+      (d.root ∙ whole.0, λ root point e. whole.1 root point (within_whole d.parent c.partition c.colour d.root d.sets c.low root point e))
+  piece_lies h s i ps es vs y j k (Some m) p None e at part there is a g = absurd is
+  piece_lies h s i ps es vs y j k None (Some p) None e at part there is a g = absurd is
+  piece_lies h s i ps es vs y j k None None u e at part there is a g = absurd is
+
   parted_at : (keeps : Bool) (y : Taking) (w : Where) (es : Expressions) (ps : List (ℕ × ℕ)) (p : ℕ × ℕ) → AreParted keeps (Some y) w es ps → Has ps p →
       IsPartedAt keeps y w es p
   parted_at keeps y w es [] p a h = absurd h
@@ -260,7 +322,9 @@ module _ (x : Setting) (params slots : ℕ) (fit : SlotsFit x slots) (aside : As
       IsSubregion (given_region vs p.0) (given_region vs p.1)
   all_lies h s i ps es vs y p false e is a g = parted_lies h s i ps es vs y p.0 p.1 (name_at es p.0) (name_at es p.1) e refl refl is a g
   all_lies h s i ps es vs y p true e (inl is) a g = parted_lies h s i ps es vs y p.0 p.1 (name_at es p.0) (name_at es p.1) e refl refl is a g
-  all_lies h s i ps es vs y p true e (inr is) a g =
+  all_lies h s i ps es vs y p true e (inr (inr is)) a g =
+      piece_lies h s i ps es vs y p.0 p.1 (name_at es p.0) (part_at es p.0) (part_at es p.1) e refl refl refl is a g
+  all_lies h s i ps es vs y p true e (inr (inl is)) a g =
       below_lies h s i ps es vs y p.0 p.1 (part_at es p.0) (name_at es p.1) (part_at es p.1) e refl refl refl is a g
 
   -- a call takes what its arguments are, and requires no more than its caller has

@@ -34,6 +34,7 @@ use Rattle.std.proofs.Common.{◌≡◌, Bool, List, [], ◌∷◌, ◌++◌, So
 use Rattle.std.specs.Prelude.{bytes_eq, length, slice_get, ◌||◌, All}
 use Rattle.std.specs.List.{list_all}
 use Rattle.std.proofs.lemmas.Bool.{and_parts}
+use Rattle.std.proofs.lemmas.Slice.Eq.{bytes_eq-Decides}
 
 -- ---- the entry task
 
@@ -47,6 +48,7 @@ all_of p (j ∷ items) e i (inr h) = all_of p items (and_parts (p j) (list_all p
 pub record IsFound (tree : Tree) (n : Name) : Type 0 where
   pub stands : (item : ItemTree) × Has tree item × (item.form ≡ task_item (task_named tree n))
   pub at : slice_get (tasks_of tree) (place_of_task tree n) ≡ Some (task_named tree n)
+  pub name : (task_named tree n).name ≡ n
 
 module _ (n : Name) where
   later : (i : ItemTree) (items : Tree) → task_named (i ∷ items) n ≡ task_named items n → tasks_of (i ∷ items) ≡ tasks_of items →
@@ -54,6 +56,7 @@ module _ (n : Name) where
   later i items same tasks place f = record {
     stands = (f.stands.0, inr f.stands.1, f.stands.2 ∙ ap task_item (sym same));
     at = ap (λ ts. slice_get ts (place_of_task (i ∷ items) n)) tasks ∙ ap (slice_get (tasks_of items)) place ∙ f.at ∙ ap Some (sym same);
+    name = ap (λ (t : TaskTree). t.name) same ∙ f.name;
   }
 
   chosen : (line : ℕ) (t : TaskTree) (items : Tree) (b : Bool) → bytes_eq t.name n ≡ b →
@@ -63,6 +66,7 @@ module _ (n : Name) where
     stands = (record { line = line; form = task_item t }, inl refl, ap (λ b. task_item (cond b t (task_named items n))) (sym q));
     at = ap (λ b. slice_get (t ∷ tasks_of items) (cond (not b) (1 + place_of_task items n) 0)) q
         ∙ ap (λ b. Some (cond b t (task_named items n))) (sym q);
+    name = ap (λ b. (cond b t (task_named items n)).name) q ∙ (bytes_eq-Decides t.name n).0 q;
   }
   chosen line t items false q e more =
       let f = more (sym (ap (λ b. b || has_task items n) q) ∙ e) in
@@ -72,6 +76,7 @@ module _ (n : Name) where
         stands = (f.stands.0, inr f.stands.1, f.stands.2 ∙ ap task_item (sym named));
         at = ap (λ b. slice_get (t ∷ tasks_of items) (cond (not b) (1 + place_of_task items n) 0)) q
             ∙ ap (slice_get (t ∷ tasks_of items)) next ∙ f.at ∙ ap Some (sym named);
+        name = ap (λ (u : TaskTree). u.name) named ∙ f.name;
       }
 
   by_form : (line : ℕ) (form : ItemForm) (items : Tree) → (is_task n form || has_task items n) ≡ true →

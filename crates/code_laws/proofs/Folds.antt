@@ -38,6 +38,8 @@ use Rattle.code_laws.proofs.States.{aside_stored, changed, stored, stores}
 use Rattle.code_laws.proofs.Pointing.{simple_no_region}
 use Rattle.code_laws.proofs.Values.{jump_later, named, number_inside}
 use Rattle.code_laws.proofs.Besides.{plain_alike}
+use Rattle.code_laws.proofs.Pieced.{simple_uncut}
+use Rattle.code_laws.specs.Taking.{MayChange}
 
 -- ---- numbers
 
@@ -61,6 +63,10 @@ max_left w z y p e =
     let same : int_max z y ≡ z = omega (arith, ints, clamps, e) in
     ap (wrapped w) same ∙ int_wrap_fits (std_width w) z p
 
+-- a name in scope that may be assigned
+abbrev IsTarget : Setting → Here → Name → Type 0
+IsTarget x h n = (is_bound h.scope.names n ≡ true) × MayChange x.forms.takes (bound_to h.scope.names n).by_loop
+
 module _ (x : Setting) (params slots : ℕ) (fit : SlotsFit x slots) (counts : CountsDown) (aside : Aside) where
   -- a name's slot is pushed
   loads : (h : Here) (n : Name) (z : ℤ) (w : Width) (s : State) (pc line : ℕ) (st : List MachineValue) (i : Instance) →
@@ -79,7 +85,7 @@ module _ (x : Setting) (params slots : ℕ) (fit : SlotsFit x slots) (counts : C
 
   -- the number on the stack goes into the name's slot
   puts : (h : Here) (n : Name) (z : ℤ) (w : Width) (s : State) (pc line : ℕ) (i : Instance) →
-      is_bound h.scope.names n ≡ true → (bound_to h.scope.names n).static_type ≡ integer_type w → FitsWidth w z →
+      IsTarget x h n → (bound_to h.scope.names n).static_type ≡ integer_type w → FitsWidth w z →
       Agrees x params slots aside h s i → Stands x.body pc (op (instr.Store (slot_named (where_of params h) n)) line) →
       Does x params slots aside (placed pc (machine.Number z ∷ []) i) (suc pc) h
       (gives goes_on (record s { names = slice_set s.names (bound_to h.scope.names n).place (a_number w z) }))
@@ -88,11 +94,13 @@ module _ (x : Setting) (params slots : ℕ) (fit : SlotsFit x slots) (counts : C
       let room : k < slots = omega (arith, fit pc _ f) in (
         stored k (machine.Number z) i,
         stores x params slots fit k pc line (machine.Number z) [] i g.slots_are f,
-        changed x params slots fit aside h s i n (a_number w z) b room
+        changed x params slots fit aside h s i n (a_number w z) b.0 b.1
+            (simple_uncut (integer_type w) _ (simple_integer w)
+            (subst (λ t. IsOf t (get_or s.names (bound_to h.scope.names n).place nothing)) ty (named IsOf h.scope.names s.names n g.typed b.0).holding)) room
             (subst (λ t. IsOf t (a_number w z)) (sym ty) (of_integer w z p))
             (number_inside x s.store _ w z (subst (λ t. IsOf t (a_number w z)) (sym ty) (of_integer w z p)))
             (simple_no_region (integer_type w) _ (simple_integer w)
-            (subst (λ t. IsOf t (get_or s.names (bound_to h.scope.names n).place nothing)) ty (named IsOf h.scope.names s.names n g.typed b).holding))
+            (subst (λ t. IsOf t (get_or s.names (bound_to h.scope.names n).place nothing)) ty (named IsOf h.scope.names s.names n g.typed b.0).holding))
             (λ bs names t q. tt) (λ t q goes. plain_alike t _ (a_number w z) q tt goes) g,
       )
 
@@ -117,7 +125,7 @@ module _ (x : Setting) (params slots : ℕ) (fit : SlotsFit x slots) (counts : C
 
   -- sums and products
   computes : (o : Op) (k : Width → Instr) (h : Here) (n : Name) (w : Width) (z y r : ℤ) (s : State) (pc : ℕ) (i : Instance) →
-      is_bound h.scope.names n ≡ true → (bound_to h.scope.names n).static_type ≡ integer_type w →
+      IsTarget x h n → (bound_to h.scope.names n).static_type ≡ integer_type w →
       get_or s.names (bound_to h.scope.names n).place nothing ≡ a_number w z → Agrees x params slots aside h s i →
       wrapped w r ≡ applied o w z (wrapped w y) →
       ((p : ℕ) → Stands x.body p (op (k w) h.line) →
@@ -131,7 +139,7 @@ module _ (x : Setting) (params slots : ℕ) (fit : SlotsFit x slots) (counts : C
       (gives goes_on (record s { names = slice_set s.names (bound_to h.scope.names n).place (a_number w v) }))) same
       (before (suc (suc (suc (suc pc)))) h _ _ _
       (leads_twice x (wraps w y pc h.line i f.0)
-      (leads_twice x (loads h n z w s (suc pc) h.line (machine.Number (wrapped w y) ∷ []) i b is g f.1.0)
+      (leads_twice x (loads h n z w s (suc pc) h.line (machine.Number (wrapped w y) ∷ []) i b.0 is g f.1.0)
       (does (suc (suc pc)) f.1.1.0)))
       (puts h n (wrapped w r) w s (suc (suc (suc pc))) h.line i b ty (SFits-int_wrap (std_width w) r) g f.1.1.1))
 
@@ -169,7 +177,7 @@ module _ (x : Setting) (params slots : ℕ) (fit : SlotsFit x slots) (counts : C
 
   -- a test that chooses between two numbers
   chooses : (h : Here) (n : Name) (w : Width) (z u r : ℤ) (test : Bool) (s : State) (pc : ℕ) (i : Instance) →
-      is_bound h.scope.names n ≡ true → (bound_to h.scope.names n).static_type ≡ integer_type w →
+      IsTarget x h n → (bound_to h.scope.names n).static_type ≡ integer_type w →
       get_or s.names (bound_to h.scope.names n).place nothing ≡ a_number w z → FitsWidth w u →
       (test ≡ true → r ≡ u) → (test ≡ false → r ≡ z) → length i.frame.slots ≡ slots →
       Agrees x params slots aside h s (stored (spare (where_of params h) 0) (machine.Number u) i) →
@@ -202,7 +210,7 @@ module _ (x : Setting) (params slots : ℕ) (fit : SlotsFit x slots) (counts : C
       )
 
   compares : (o : Op) (k : Instr) (test : Bool) (h : Here) (n : Name) (w : Width) (z y : ℤ) (s : State) (pc : ℕ) (i : Instance) →
-      params ≤ length h.scope.names → is_bound h.scope.names n ≡ true →
+      params ≤ length h.scope.names → IsTarget x h n →
       (bound_to h.scope.names n).static_type ≡ integer_type w → get_or s.names (bound_to h.scope.names n).place nothing ≡ a_number w z →
       (test ≡ true → applied o w z (wrapped w y) ≡ wrapped w y) → (test ≡ false → applied o w z (wrapped w y) ≡ z) →
       Agrees x params slots aside h s i →
@@ -223,13 +231,13 @@ module _ (x : Setting) (params slots : ℕ) (fit : SlotsFit x slots) (counts : C
       (leads_twice x (wraps w y pc h.line i f.0)
       (leads_twice x q.0
       (leads_twice x (takes_aside h u s (suc (suc pc)) [] i q.1 g.slots_are f.1.1.0)
-      (leads_twice x (loads h n z w s (suc (suc (suc pc))) h.line (machine.Number u ∷ []) j b is q.1 f.1.1.1.0)
+      (leads_twice x (loads h n z w s (suc (suc (suc pc))) h.line (machine.Number u ∷ []) j b.0 is q.1 f.1.1.1.0)
       (does (suc (suc (suc (suc pc)))) j f.1.1.1.1.0)))))
       (chooses h n w z u (applied o w z u) test s pc5 i b ty is (SFits-int_wrap (std_width w) y) this that
       g.slots_are q.1 f.1.1.1.1.1)
 
   by_operator : (o : Op) (h : Here) (n : Name) (w : Width) (z y : ℤ) (s : State) (pc : ℕ) (i : Instance) →
-      params ≤ length h.scope.names → is_bound h.scope.names n ≡ true → (bound_to h.scope.names n).static_type ≡ integer_type w →
+      params ≤ length h.scope.names → IsTarget x h n → (bound_to h.scope.names n).static_type ≡ integer_type w →
       get_or s.names (bound_to h.scope.names n).place nothing ≡ a_number w z → FitsWidth w z → Agrees x params slots aside h s i →
       Stands x.body pc (fold_code (where_of params h) (slot_named (where_of params h) n) o w) → Folds h n o w z y s pc i
   by_operator Sum h n w z y s pc i low b ty is p g f = computes Sum instr.Add h n w z y (wrapped w y +ℤ z) s pc i b ty is g
@@ -247,7 +255,7 @@ module _ (x : Setting) (params slots : ℕ) (fit : SlotsFit x slots) (counts : C
 
   -- by the types of the value and of the variable
   by_types : (o : Op) (h : Here) (n : Name) (t u : StaticType) (v old : Value) (s : State) (pc : ℕ) (i : Instance) →
-      params ≤ length h.scope.names → is_bound h.scope.names n ≡ true → IsInteger t → IsInteger u → IsOf t v → IsOf u old →
+      params ≤ length h.scope.names → IsTarget x h n → IsInteger t → IsInteger u → IsOf t v → IsOf u old →
       (bound_to h.scope.names n).static_type ≡ u → get_or s.names (bound_to h.scope.names n).place nothing ≡ old →
       Agrees x params slots aside h s i →
       Stands x.body pc (set_code (where_of params h) (slot_named (where_of params h) n) (how.Reduce o) u) →
@@ -262,12 +270,12 @@ module _ (x : Setting) (params slots : ℕ) (fit : SlotsFit x slots) (counts : C
   -- `x o= e`
   pub folds : (h : Here) (n : Name) (o : Op) (t : StaticType) (v : Value) (s : State) (pc : ℕ) (i : Instance) →
       params ≤ length h.scope.names → IsInteger t → IsInteger (bound_to h.scope.names n).static_type → IsOf t v →
-      is_bound h.scope.names n ≡ true → Agrees x params slots aside h s i →
+      IsTarget x h n → Agrees x params slots aside h s i →
       Stands x.body pc (set_code (where_of params h) (slot_named (where_of params h) n) (how.Reduce o) (bound_to h.scope.names n).static_type) →
       Does x params slots aside (valued pc [] v i)
       (past (set_code (where_of params h) (slot_named (where_of params h) n) (how.Reduce o) (bound_to h.scope.names n).static_type) pc) h
       (write_name h n (how.Reduce o) v s)
   folds h n o t v s pc i low ti ui o1 b g f =
-      let m = named IsOf h.scope.names s.names n g.typed b in
+      let m = named IsOf h.scope.names s.names n g.typed b.0 in
       by_types o h n t (bound_to h.scope.names n).static_type v (get_or s.names (bound_to h.scope.names n).place nothing) s pc i
       low b ti ui o1 m.holding refl refl g f

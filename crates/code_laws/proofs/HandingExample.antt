@@ -17,6 +17,7 @@ use Rattle.code_laws.specs.LocalPrograms.{IsLocalProgramRun}
 use Rattle.code_laws.specs.Programs.{IsTypedRun, gives_nothing, gives_scalar}
 use Rattle.code_laws.proofs.LocalExample.{all_keep}
 use Rattle.code_laws.proofs.LocalRuns.{accepted_programs_run_as_meant}
+use Rattle.code_laws.specs.Pointers.{fills_alike, into_plain, zero_scalar}
 use Rattle.code_laws.specs.Simple.{a_region_type, a_space_type, an_integer, fits_64, number_integer, scalar_integer, simple_integer, two_integers, two_regions}
 use Rattle.code_laws.specs.Standing.{of_integer}
 use Rattle.code_laws.proofs.Under.{made_may, taken_may}
@@ -29,7 +30,7 @@ main = task_named handing_program (entry_name handing_program)
 main_typed : IsTypedBlock (forms_by true false handing_program main) (place_of handing_program main) main.body
 main_typed = (
   -- the root
-  (refl, a_space_type _, ((refl, simple_integer _), an_integer _), record { there = omega arith; few = omega arith }, (omega arith, refl)),
+  (refl, a_space_type _, ((refl, simple_integer _), an_integer _), record { there = omega arith; few = omega arith }, (omega arith, refl, refl)),
   (
     -- it is handed over
     (
@@ -51,7 +52,7 @@ main_typed = (
                 (two_integers _ _, refl),
                 (
                   refl,
-                  scalar_integer _,
+                  zero_scalar _ (scalar_integer _),
                   (refl, ((refl, a_region_type _ _ _ _, omega arith, made_may _ _ 0 mode.Read (omega arith) refl), tt), ((refl, refl, a_region_type _ _ _ _, a_region_type _ _ _ _, inl refl), tt), (tt, (tt, tt)), (tt, (tt, tt))),
                   (inr (inl (refl, refl, two_regions _ _ _ _ _ _ _)), (inr (inl (refl, refl, two_regions _ _ _ _ _ _ _)), tt)),
                 ),
@@ -88,7 +89,7 @@ tasks zero t e = subst (IsTypedBy true false handing_program) (same_Some _ t e) 
   given = gives_scalar _ (scalar_integer _);
   typed = (
     (
-      two_integers _ _,
+      (into_plain _ _ (fills_alike _ _ (two_integers _ _)), zero_scalar _ (scalar_integer _)),
       (
         (omega (arith, ints), number_integer _, refl, record { named = refl; region = a_region_type _ _ _ _; field = omega arith; keeps = fits_64 }, taken_may _ _ 0 mode.Read (omega arith) refl),
         (number_integer _, number_integer _, (omega (arith, ints), number_integer _, refl, record { named = refl; region = a_region_type _ _ _ _; field = omega arith; keeps = fits_64 }, taken_may _ _ 0 mode.Read (omega arith) refl), tt),
@@ -110,7 +111,7 @@ tasks (suc zero) t e = subst (IsTypedBy true false handing_program) (same_Some _
         an_integer _,
         (
           refl,
-          scalar_integer _,
+          zero_scalar _ (scalar_integer _),
           (
             refl,
             ((refl, a_region_type _ _ _ _, omega arith, taken_may _ _ 0 mode.Read (omega arith) refl), tt),

@@ -29,10 +29,10 @@ use Rattle.check_rules.specs.types.Declarations.{params_bound}
 use Rattle.check_rules.specs.types.TypedForms.{field_of}
 use Rattle.expression_laws.proofs.Params.{known_clause, known_param, none_has}
 use Rattle.local_form.specs.LocalForm.{Marked}
-use Rattle.code_laws.specs.Above.{above_in, cut_told, first_told, whole_of, whole_told}
+use Rattle.code_laws.specs.Above.{above_in, cut_told, first_told, piece_in, piece_told, whole_of, whole_told}
 use Rattle.code_laws.specs.Handing.{forms_by, takes_by, told_in}
 use Rattle.code_laws.specs.Privileges.{BeganAsPart, IsKnownBehind}
-use Rattle.code_laws.proofs.Told.{ToldUpTo, cut_behind, told_left, told_none, told_right}
+use Rattle.code_laws.proofs.Told.{ToldUpTo, cut_behind, piece_none, piece_untold, told_left, told_none, told_right}
 use Rattle.check_laws.specs.SoundScopes.{Falls}
 use Rattle.code_rules.specs.Slots.{Where}
 use Rattle.code_laws.specs.Simple.{IsRegion, a_region_type, term_in}
@@ -69,7 +69,7 @@ pub record IsPiece (m : Marked) (task : TaskTree) (s : Scope) (a b : Term) : Typ
   pub high : length task.params ≤ own
   pub low : own < s.next
   pub told : first_told (cut_told own) s.known ≡ Some cut
-  pub marked : m.parts ≡ true
+  pub piece : first_told (piece_told own) s.known ≡ Some (cut, colour)
 
 -- a region that was made is behind the parameters, and began as no part
 pub record IsMadeHere (task : TaskTree) (s : Scope) (i : ℕ) : Type 0 where
@@ -120,7 +120,7 @@ IsName (place.Child p c) = ⊥
 
 module _ (total : List Known) where
   -- what is told of a place is the first that is told in the body
-  told_here : {s : Scope} → ToldUpTo total s → (f : Known → Option ℕ) (n : ℕ) → first_told f s.known ≡ Some n → first_told f total ≡ Some n
+  pub told_here : {A : Type 0} {s : Scope} → ToldUpTo total s → (f : Known → Option A) (n : A) → first_told f s.known ≡ Some n → first_told f total ≡ Some n
   told_here {s = s} up f n e = ap (first_told f) up.known ∙ told_left f s.known up.more n e
 
   -- a region that was made began as no part
@@ -130,6 +130,13 @@ module _ (total : List Known) where
       let made = facts.made i c in
       ap (whole_of total) (ap (first_told (cut_told i)) up.known ∙ told_right (cut_told i) s.known up.more made.whole
       ∙ told_none (cut_told i) up.more (λ k g. cut_behind s.next i k made.low (up.behind k g)))
+
+  pub made_piece_none : {m : Marked} {tree : Tree} {task : TaskTree} {s : Scope} → KnowsFacts m tree task s → ToldUpTo total s → (i : ℕ) → Contains s.known (Made i) →
+      piece_in total i ≡ None
+  made_piece_none {s = s} facts up i c =
+      let made = facts.made i c in
+      ap (first_told (piece_told i)) up.known ∙ told_right (piece_told i) s.known up.more (piece_none i s.known made.whole)
+      ∙ told_none (piece_told i) up.more (λ k g. piece_untold s.next i k made.low (up.behind k g))
 
   -- within which region a region began, by what is told of it
   pub above_by : {m : Marked} {tree : Tree} {task : TaskTree} {s : Scope} → KnowsFacts m tree task s → ToldUpTo total s → (i p r : ℕ) (d : Bool) →

@@ -1,6 +1,6 @@
 -- What is derived of a part at a place of a task's body is derived of its whole: so what the rules allow of it may be done. And
 -- within what a region with a name lies.
-use Rattle.std.proofs.Common.{◌≡◌, ℕ, ◌<◌, ◌≤◌, Bool, List, [], ◌∷◌, Some, true, false, ◌⊎◌, inl, inr, refl, ap, sym, subst, ◌∙◌, ⊎_elim, arith}
+use Rattle.std.proofs.Common.{◌≡◌, ℕ, ◌<◌, ◌≤◌, Bool, List, [], ◌∷◌, Some, true, ◌⊎◌, inl, inr, refl, ap, sym, subst, ◌∙◌, ⊎_elim, arith}
 use Rattle.std.specs.Prelude.{length, ◌&&◌, ◌||◌, ◌==◌}
 use Rattle.std.specs.List.{Contains, list_any}
 use Rattle.std.proofs.lemmas.Bool.{and_from, and_parts, or_cases, or_left, or_right}
@@ -13,6 +13,7 @@ use Rattle.regent_tree.specs.Scopes.{Scope, scope_of}
 use Rattle.regent_tree.specs.Syntax.{TaskTree, Tree}
 use Rattle.regent_tree.specs.Typing.{parent_of}
 use Rattle.regent_tree.specs.declared.facts.Colour.{Colour}
+use Rattle.regent_tree.specs.declared.facts.Colour.TheVariants.{Unknown}
 use Rattle.regent_tree.specs.declared.facts.Known.{Known}
 use Rattle.regent_tree.specs.declared.facts.Known.TheVariants.{Apart, Made, PartOf, Within}
 use Rattle.regent_tree.specs.declared.facts.Term.{Term}
@@ -23,13 +24,12 @@ use Rattle.regent_tree.specs.declared.rights.Right.{Right}
 use Rattle.regent_tree.specs.declared.typing.Bound.{Bound}
 use Rattle.regent_tree.specs.declared.typing.StaticType.TheVariants.{Partition as partition_type}
 use Rattle.check_rules.specs.rules.Privileges.{made_above, may_do, wanting}
-use Rattle.code_laws.specs.Above.{cut_told, first_told}
-use Rattle.code_laws.specs.Handing.{taking_of}
+use Rattle.code_laws.specs.Above.{cut_told, first_told, piece_told}
+use Rattle.code_laws.specs.Handing.{taking_of, told_in}
 use Rattle.code_laws.specs.Steps.{Taking}
 use Rattle.code_laws.specs.Taking.{LiesUp, known_of_pairs, pairs_in, up_itself, up_part}
-use Rattle.code_laws.proofs.Typing.{no_way}
 use Rattle.local_form.specs.LocalForm.{Marked}
-use Rattle.code_laws.proofs.KnownHeads.{IsPair, IsPiece, KnowsHead, above_told}
+use Rattle.code_laws.proofs.KnownHeads.{IsPair, IsPiece, KnowsHead, above_told, told_here}
 
 any_more : {A : Type 0} (p q : A → Bool) (xs : List A) → ((x : A) → p x ≡ true → q x ≡ true) → list_any p xs ≡ true → list_any q xs ≡ true
 any_more p q [] more e = e
@@ -48,6 +48,10 @@ abbrev partition_in : Term → ℕ
 partition_in (place.Name i) = 0
 partition_in (place.Child p c) = p
 
+abbrev colour_in : Term → Colour
+colour_in (place.Name i) = Unknown
+colour_in (place.Child p c) = c
+
 module _ {m : Marked} (tree : Tree) (task : TaskTree) (s : Scope) (head : KnowsHead m tree task s) where
   abbrev y : Taking
   y = taking_of tree task
@@ -55,18 +59,6 @@ module _ {m : Marked} (tree : Tree) (task : TaskTree) (s : Scope) (head : KnowsH
   not_child : (a b : Term) (p : ℕ) (c : Colour) → IsPair tree task a b ⊎ IsPiece m task s a b → a ≡ place.Child p c → ⊥
   not_child a b p c (inl d) e = subst IsName (sym d.is_lower ∙ e) tt
   not_child a b p c (inr d) e = subst IsName (sym d.is_lower ∙ e) tt
-
-  upper_name : m.parts ≡ false → (a b : Term) → IsPair tree task a b ⊎ IsPiece m task s a b → (j : ℕ) × (b ≡ place.Name j)
-  upper_name none a b (inl p) = (p.upper, p.is_upper)
-  upper_name none a b (inr p) = absurd (no_way (sym p.marked ∙ none))
-
-  -- names lie within names alone, where no variable begins as a part
-  pub names_below : m.parts ≡ false → (a b : Term) → IsBelow s.known a b → (i : ℕ) → a ≡ place.Name i → (j : ℕ) × (b ≡ place.Name j)
-  names_below none a _ same i e = (i, e)
-  names_below none a b (told_within c) i e = upper_name none a b (head.facts.within a b c)
-  names_below none a b (through p q) i e = let n = names_below none a _ p i e in names_below none _ b q n.0 n.1
-  names_below none _ b (child c) i e = absurd (subst IsName (sym e) tt)
-  names_below none a b (variable c) i e = upper_name none a b (head.facts.within a b c)
 
   -- parameters of which it follows that the one lies within the other
   abbrev pub IsPaired : ℕ → ℕ → Type 0
@@ -77,7 +69,7 @@ module _ {m : Marked} (tree : Tree) (task : TaskTree) (s : Scope) (head : KnowsH
   data Lands (i : ℕ) : Term → Type 0 where
     lands_name : (k : ℕ) → LiesUp y i k → Lands i (place.Name k)
     lands_pair : (k j : ℕ) → LiesUp y i k → IsPaired k j → Lands i (place.Name j)
-    lands_part : (k p : ℕ) (c : Colour) → LiesUp y i k → length task.params ≤ k → first_told (cut_told k) s.known ≡ Some p → m.parts ≡ true → Lands i (place.Child p c)
+    lands_part : (k p : ℕ) (c : Colour) → LiesUp y i k → length task.params ≤ k → first_told (cut_told k) s.known ≡ Some p → first_told (piece_told k) s.known ≡ Some (p, c) → Lands i (place.Child p c)
 
   -- and a part: within itself, or within what its whole lies within
   data Over (p : ℕ) (c : Colour) : Term → Type 0 where
@@ -100,7 +92,7 @@ module _ {m : Marked} (tree : Tree) (task : TaskTree) (s : Scope) (head : KnowsH
   lands_up : (i j : ℕ) (b : Term) → LiesUp y i j → Lands j b → Lands i b
   lands_up i j _ u (lands_name k v) = lands_name k (up_then i j k u v)
   lands_up i j _ u (lands_pair k l v pair) = lands_pair k l (up_then i j k u v) pair
-  lands_up i j _ u (lands_part k p c v high told marked) = lands_part k p c (up_then i j k u v) high told marked
+  lands_up i j _ u (lands_part k p c v high told piece) = lands_part k p c (up_then i j k u v) high told piece
 
   paired_through : (i j k : ℕ) → IsPaired i j → IsPaired j k → IsPaired i k
   paired_through i j k a b =
@@ -113,18 +105,18 @@ module _ {m : Marked} (tree : Tree) (task : TaskTree) (s : Scope) (head : KnowsH
   lands_paired i k j _ u pair (lands_name l v) = subst (λ n. Lands i (place.Name n)) (sym (low_itself j l v pair.1)) (lands_pair k j u pair)
   lands_paired i k j _ u pair (lands_pair l n v other) =
       lands_pair k n u (paired_through k j n pair (subst (λ d. IsPaired d n) (low_itself j l v pair.1) other))
-  lands_paired i k j _ u pair (lands_part l p c v high told marked) =
+  lands_paired i k j _ u pair (lands_part l p c v high told piece) =
       let low = pair.1 in let one = low_itself j l v low in absurd (omega (arith, low, high, one))
 
-  lands_over : (i k p : ℕ) (c : Colour) (b : Term) → LiesUp y i k → length task.params ≤ k → first_told (cut_told k) s.known ≡ Some p → m.parts ≡ true → Over p c b → Lands i b
-  lands_over i k p c _ u high told marked over_itself = lands_part k p c u high told marked
-  lands_over i k p c b u high told marked (over_whole r d _ known lands) =
+  lands_over : (i k p : ℕ) (c : Colour) (b : Term) → LiesUp y i k → length task.params ≤ k → first_told (cut_told k) s.known ≡ Some p → first_told (piece_told k) s.known ≡ Some (p, c) → Over p c b → Lands i b
+  lands_over i k p c _ u high told piece over_itself = lands_part k p c u high told piece
+  lands_over i k p c b u high told piece (over_whole r d _ known lands) =
       lands_up i r b (up_then i k r u (up_part k r r high (above_told head k p r d told known) (up_itself r))) lands
 
   name_reach : (i : ℕ) (o b : Term) → Lands i o → Reach o b → Lands i b
   name_reach i _ b (lands_name k u) more = lands_up i k b u more
   name_reach i _ b (lands_pair k j u pair) more = lands_paired i k j b u pair more
-  name_reach i _ b (lands_part k p c u high told marked) more = lands_over i k p c b u high told marked more
+  name_reach i _ b (lands_part k p c u high told piece) more = lands_over i k p c b u high told piece more
 
   part_reach : (p : ℕ) (c : Colour) (o b : Term) → Over p c o → Reach o b → Over p c b
   part_reach p c _ b over_itself more = more
@@ -154,7 +146,7 @@ module _ {m : Marked} (tree : Tree) (task : TaskTree) (s : Scope) (head : KnowsH
         }),
       )))
   told_reach a b (inr p) =
-      subst (λ a. Reach a b) (sym p.is_lower) (subst (Lands p.own) (sym p.is_upper) (lands_part p.own p.cut p.colour (up_itself p.own) p.high p.told p.marked))
+      subst (λ a. Reach a b) (sym p.is_lower) (subst (Lands p.own) (sym p.is_upper) (lands_part p.own p.cut p.colour (up_itself p.own) p.high p.told p.piece))
 
   reach : (a b : Term) → IsBelow s.known a b → Reach a b
   reach a _ same = itself a
@@ -187,11 +179,32 @@ module _ {m : Marked} (tree : Tree) (task : TaskTree) (s : Scope) (head : KnowsH
   landed : (i : ℕ) (b : Term) → Lands i b → (j : ℕ) → b ≡ place.Name j → IsWithin i j
   landed i _ (lands_name k u) j e = subst (IsWithin i) (ap number_in e) (by_name i k u)
   landed i _ (lands_pair k l u pair) j e = subst (IsWithin i) (ap number_in e) (by_pair i k l u pair)
-  landed i _ (lands_part k p c u high told marked) j e = absurd (subst IsName (sym e) tt)
+  landed i _ (lands_part k p c u high told piece) j e = absurd (subst IsName (sym e) tt)
 
   pub name_within : (i j : ℕ) → is_subregion s.known (place.Name i) (place.Name j) ≡ true → IsWithin i j
   name_within i j e =
       landed i (place.Name j) (reach (place.Name i) (place.Name j) ((is_subregion-derivable s.known (place.Name i) (place.Name j)).0 e).below) j refl
+
+  -- a region lies within the part of a colour: it began as that one, or as a part of what lies within that
+  pub record IsLanded (i p : ℕ) (c : Colour) : Type 0 where
+    pub upper : ℕ
+    pub up : LiesUp y i upper
+    pub high : length task.params ≤ upper
+    pub piece : y.piece upper ≡ Some (p, c)
+
+  on_part : (i : ℕ) (b : Term) → Lands i b → (p : ℕ) (c : Colour) → b ≡ place.Child p c → IsLanded i p c
+  on_part i _ (lands_name k u) p c e = absurd (subst IsName e tt)
+  on_part i _ (lands_pair k l u pair) p c e = absurd (subst IsName e tt)
+  on_part i _ (lands_part k q d u high told piece) p c e = record {
+    upper = k;
+    up = u;
+    high = high;
+    piece = told_here (told_in tree task) head.told (piece_told k) (p, c)
+        (subst (λ b. first_told (piece_told k) s.known ≡ Some (partition_in b, colour_in b)) e piece);
+  }
+
+  pub part_landed : (i p : ℕ) (c : Colour) → IsBelow s.known (place.Name i) (place.Child p c) → IsLanded i p c
+  part_landed i p c below = on_part i (place.Child p c) (reach (place.Name i) (place.Child p c) below) p c refl
 
   -- a part lies within itself, and within what a region lies within of which the partition is
   pub data IsAbove (p : ℕ) (c : Colour) (b : Term) : Type 0 where

@@ -1,5 +1,5 @@
 -- What is known from place to place of a task's body: behind a place nothing more is known but what is new there.
-use Rattle.std.proofs.Common.{◌≡◌, Bool, List, [], ◌∷◌, ◌++◌, None, Some, false, true, refl, ap, sym, subst, ℕ, ◌≤◌, ◌∙◌, cond, arith, ◌⊎◌, inl, inr, ⊎_elim}
+use Rattle.std.proofs.Common.{◌≡◌, Bool, List, [], ◌∷◌, ◌++◌, None, Some, false, true, refl, ap, sym, subst, ℕ, ◌≤◌, ◌∙◌, cond, arith, ◌⊎◌, inl, inr, ⊎_elim, Option}
 use Rattle.std.specs.List.{Contains}
 use Rattle.std.proofs.lemmas.Bool.{eq-eqb, ne_eqb}
 use Rattle.std.proofs.lemmas.List.{append-nil}
@@ -13,8 +13,8 @@ use Rattle.regent_tree.specs.declared.facts.Term.{Term}
 use Rattle.regent_tree.specs.declared.facts.Term.TheVariants as place
 use Rattle.regent_tree.specs.declared.typing.StaticType.{StaticType}
 use Rattle.local_form.specs.LocalForm.{Marked}
-use Rattle.code_laws.specs.Above.{cut_told, first_told, or_other, whole_told}
-use Rattle.code_laws.proofs.Told.{IsBehind, cut_behind, told_left, told_none, told_right}
+use Rattle.code_laws.specs.Above.{cut_told, first_told, or_other, piece_told, whole_told}
+use Rattle.code_laws.proofs.Told.{IsBehind, cut_behind, piece_none, told_left, told_none, told_right}
 use Rattle.check_laws.specs.SoundScopes.{Falls}
 use Rattle.regent_tree.specs.declared.typing.Bound.{Bound}
 use Rattle.regent_tree.specs.declared.typing.StaticType.TheVariants.{Partition as partition_type}
@@ -45,7 +45,7 @@ piece_behind s u more known less p = let low = p.low in record {
   high = p.high;
   low = omega (arith, low, less);
   told = ap (first_told (cut_told p.own)) known ∙ told_left (cut_told p.own) s.known more p.cut p.told;
-  marked = p.marked;
+  piece = ap (first_told (piece_told p.own)) known ∙ told_left (piece_told p.own) s.known more (p.cut, p.colour) p.piece;
 }
 
 made_behind : {task : TaskTree} (s u : Scope) (more : List Known) (i : ℕ) → u.known ≡ s.known ++ more → s.next ≤ u.next → ((k : Known) → Has more k → IsBehind s.next k) →
@@ -144,7 +144,7 @@ head_past {m = m} tree task s inner names h = record {
   where
     piece_past : (a b : Term) → IsPiece m task inner a b → IsPiece m task (past s inner) a b
     piece_past a b p =
-        record { own = p.own; cut = p.cut; colour = p.colour; is_lower = p.is_lower; is_upper = p.is_upper; high = p.high; low = p.low; told = p.told; marked = p.marked }
+        record { own = p.own; cut = p.cut; colour = p.colour; is_lower = p.is_lower; is_upper = p.is_upper; high = p.high; low = p.low; told = p.told; piece = p.piece }
 
 -- one more name has a number of its own
 one_more : (s u : Scope) (n : Name) (t : StaticType) (by_loop : Bool) → ((k : Known) → Has (known_of_type t) k → Has u.known k) →
@@ -181,9 +181,9 @@ head_made {m = m} tree task s n t none h = head_behind tree task s u (Made s.nex
     own = record { high = h.next; low = omega (arith); whole = told_right (cut_told s.next) s.known (Made s.next ∷ []) (cut_none h) }
 
 -- or one that begins as a part
-pub head_piece : {m : Marked} (tree : Tree) (task : TaskTree) (s : Scope) (n : Name) (t : StaticType) (p : ℕ) (c : Colour) → known_of_type t ≡ [] → m.parts ≡ true → KnowsFacts m tree task s →
+pub head_piece : {m : Marked} (tree : Tree) (task : TaskTree) (s : Scope) (n : Name) (t : StaticType) (p : ℕ) (c : Colour) → known_of_type t ≡ [] → KnowsFacts m tree task s →
     KnowsFacts m tree task (knowing (with_name s n t false) (Within (place.Name s.next) (place.Child p c) ∷ []))
-head_piece {m = m} tree task s n t p c none marked h = head_behind tree task s u more h refl (omega (arith)) (nothing_told s u n t false none)
+head_piece {m = m} tree task s n t p c none h = head_behind tree task s u more h refl (omega (arith)) (nothing_told s u n t false none)
     (λ k a. ⊎_elim (λ same. subst (IsNew m task u s.next) same (refl, own)) (λ none. absurd none) a)
   where
     more : List Known
@@ -202,7 +202,8 @@ head_piece {m = m} tree task s n t p c none marked h = head_behind tree task s u
       high = h.next;
       low = omega (arith);
       told = told_right (cut_told s.next) s.known more (cut_none h) ∙ ap (λ d. or_other (cond d (Some p) None) None) (eq-eqb s.next s.next refl);
-      marked = marked;
+      piece = told_right (piece_told s.next) s.known more (piece_none s.next s.known (cut_none h))
+          ∙ ap (λ d. or_other (cond {A = Option (ℕ × Colour)} d (Some (p, c)) None) None) (eq-eqb s.next s.next refl);
     }
 
 -- or one of a partition, of which is known of which region it is

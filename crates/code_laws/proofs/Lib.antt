@@ -4,6 +4,7 @@ pub mod Values
 pub mod Names
 pub mod Pointing
 pub mod Under
+pub mod Pieced
 pub mod States
 pub mod Places
 pub mod Counts
@@ -16,6 +17,7 @@ pub mod Reaching
 pub mod Accesses
 pub mod Writes
 pub mod Wider
+pub mod Written
 pub mod Filling
 pub mod Making
 pub mod Prints
@@ -30,6 +32,7 @@ pub mod Columns
 pub mod Cuts
 pub mod FieldCuts
 pub mod Parts
+pub mod SeenColours
 pub mod Handing
 pub mod Began
 pub mod CallValues
@@ -120,6 +123,8 @@ pub mod ScalarLocal
 pub mod ScalarTyped
 pub mod ScalarRuns
 pub mod LocalExample
+pub mod GivenExample
+pub mod MinusExample
 pub mod Example
 pub mod RegionExample
 pub mod PointerExample

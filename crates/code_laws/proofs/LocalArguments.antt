@@ -1,15 +1,14 @@
 -- Arguments of calls in a text with marked names, of which no breach is told, are typed, and the calls may be made.
-use Rattle.std.proofs.Common.{◌≡◌, ℕ, zero, suc, Bool, List, [], ◌∷◌, None, Some, false, true, refl, ap, sym, subst, ◌∙◌, ◌⊎◌, inl, inr, not, ⊎_elim}
+use Rattle.std.proofs.Common.{◌≡◌, ℕ, Bool, List, [], ◌∷◌, None, Some, false, true, refl, ap, sym, subst, ◌∙◌, ◌⊎◌, inl, inr, not, ⊎_elim}
 use Rattle.std.proofs.lemmas.List.{length-map}
 use Rattle.std.specs.Prelude.{length, map, ◌&&◌, ◌==◌, ◌||◌}
 use Rattle.std.specs.List.{list_any}
-use Rattle.std.proofs.lemmas.Bool.{and_parts, eqb-true, not-false, not-true}
-use Rattle.std.proofs.lemmas.Option.{none-some}
+use Rattle.std.proofs.lemmas.Bool.{eqb-true, not-false}
 use Rattle.plain_values.proofs.Plain.{option_or_parts}
 use Rattle.regent_tree.specs.Lookup.{has_task, is_bound}
 use Rattle.regent_tree.specs.Scopes.{bound_as, scope_of}
 use Rattle.regent_tree.specs.StaticTypes.{Reach, task_named}
-use Rattle.regent_tree.specs.Syntax.{Expression, Expressions, Name, TaskTree, access_expr, an_expr, at_step, no_expr, no_step}
+use Rattle.regent_tree.specs.Syntax.{Expression, Expressions, Name, TaskTree, access_expr, at_step, no_step}
 use Rattle.regent_tree.specs.Typing.{child_type, colour_of, is_pointer, param_types, params_at, put, put_in, type_of_element, is_disjoint, parent_of}
 use Rattle.regent_tree.specs.declared.facts.Term.{Term}
 use Rattle.regent_tree.specs.declared.facts.Term.TheVariants as term
@@ -31,7 +30,7 @@ use Rattle.check_rules.specs.types.TypedForms.{calling, element_of}
 use Rattle.check_rules.specs.declared.rule.Rule.TheVariants as rule
 use Rattle.check_rules.proofs.Untold.{rule_none}
 use Rattle.code_rules.specs.Slots.{Where, bound, typed}
-use Rattle.local_form.specs.LocalForm.{Marked, are_local_arguments, is_among, is_local_expression, is_name, is_part, takes_element}
+use Rattle.local_form.specs.LocalForm.{Marked, is_local_expression, is_name, is_part}
 use Rattle.code_laws.specs.Handing.{forms_by, takes_by}
 use Rattle.code_laws.specs.Pointers.{CountsAs, IsCounting, PassesInto, passes_pointer}
 use Rattle.code_laws.specs.Simple.{AreAlike, AreRegions, IsPartition, IsRegion, IsScalar, a_partition_type, a_region_type}
@@ -40,11 +39,9 @@ use Rattle.code_laws.specs.Arguments.{IsCutName, IsHanded, IsHandedPart}
 use Rattle.code_laws.specs.Typed.{ArePassed, IsCallable, IsIndexed, IsPassed, IsTyped, IsOwnCut}
 use Rattle.expression_laws.proofs.Calls.{IsFlawless, call_parts}
 use Rattle.code_laws.proofs.KnownHeads.{KnowsHead}
-use Rattle.code_laws.proofs.Arguments.{part_is}
-use Rattle.code_laws.proofs.LocalCalls.{ArePartsApart}
 use Rattle.code_laws.proofs.LocalDivided.{may_call}
 use Rattle.code_laws.proofs.LocalParts.{and_then, named_alone, put_region, put_scalar}
-use Rattle.code_laws.proofs.LocalNames.{AllKept, IsKept, IsLocalTree, kept_partition, kept_region, kept_scalar, named_kept, kept_value, no_partition_kept, region_of_number, value_kept, value_no_region, kept_plain}
+use Rattle.code_laws.proofs.LocalNames.{AllKept, IsKept, IsLocalTree, kept_partition, kept_region, kept_scalar, named_kept, kept_value, region_of_number, value_kept, value_no_region, kept_plain}
 use Rattle.code_laws.proofs.LocalPlaces.{taking_told}
 use Rattle.code_laws.proofs.LocalTaken.{IsOther, other_partition, other_pointer, none_scalar, none_region, index_param, space_param, pointer_param, passes_into, goes_passes, index_other, pointer_other, value_no_cut, partition_other, scalar_no_cut, none_space}
 use Rattle.code_laws.proofs.LocalTypes.{IsTakable, either, region_for_index, region_for_partition, region_for_pointer, region_for_scalar, region_for_space, regions_alike, simple_other, takable_index, takable_partition, takable_pointer, takable_region, takable_scalar, takable_space}
@@ -334,7 +331,7 @@ module _ (handing keeping : Bool) (task : TaskTree) (w : Where) (sound : IsSound
       handed false q = absurd (simple_other p (scalar_simple p (alone q)) r)
       handed true q = (n.there, put_region types p r, regions)
 
-  pub argument_of : (e : Expression) → (is_name e || ((not m.parts && is_part m e) || is_local_expression m e)) ≡ true → first_in_expression w.tree task w.scope e ≡ None →
+  pub argument_of : (e : Expression) → (is_name e || (is_part m e || is_local_expression m e)) ≡ true → first_in_expression w.tree task w.scope e ≡ None →
       (is_part m e ≡ true → IsArgument e) → (is_local_expression m e ≡ true → Well e) → IsArgument e
   argument_of e lo told part well = ⊎_elim
       (λ alone.
@@ -343,29 +340,8 @@ module _ (handing keeping : Bool) (task : TaskTree) (w : Where) (sound : IsSound
       (subst (λ y. first_in_expression w.tree task w.scope y ≡ None) n.1 told) in
       let there = not-false (is_bound w.scope.names n.0) (rule_none (not (is_bound w.scope.names n.0)) rule.Name unbound.0) in
       subst IsArgument (sym n.1) (name_argument n.0 there (bound w n.0).static_type refl (named_kept keeping m w.scope.names n.0 names there)))
-      (λ own. ⊎_elim (λ both. part (and_parts (not m.parts) (is_part m e) both).1) (λ own. inl (well own)) (either (not m.parts && is_part m e) (is_local_expression m e) own))
+      (λ own. ⊎_elim (λ both. part both) (λ own. inl (well own)) (either (is_part m e) (is_local_expression m e) own))
       (either (is_name e) _ lo)
-
-  -- a part is one only where no variable begins as a part
-  part_alone : (n : Name) (e : Expression) → IsCutName w n →
-      (is_name (access_expr n (at_step e no_step)) || ((not m.parts && is_part m (access_expr n (at_step e no_step))) || is_local_expression m (access_expr n (at_step e no_step)))) ≡ true →
-      m.parts ≡ false
-  part_alone n e cut lo = ⊎_elim
-      (λ both. not-true m.parts (and_parts (not m.parts) (is_part m (access_expr n (at_step e no_step))) both).0)
-      (λ own.
-      let takes = and_parts (takes_element m n) (is_local_expression m e) own in
-      let only = and_parts (is_among m.regions n) (not (is_among m.partitions n)) (and_parts m.keeps _ takes.0).1 in
-      let among = no_partition_kept keeping m w.scope.names n (bound w n).number (bound w n).static_type (named_kept keeping m w.scope.names n names cut.named) cut.partition in
-      absurd (no_way (sym among ∙ not-true (is_among m.partitions n) only.1)))
-      (either (not m.parts && is_part m (access_expr n (at_step e no_step))) (is_local_expression m (access_expr n (at_step e no_step))) lo)
-
-  pub parts_apart : (es : Expressions) → are_local_arguments m es ≡ true → ArePartsApart m w es
-  parts_apart no_expr lo k p at cut = absurd (none-some p at)
-  parts_apart (an_expr e es) lo (suc k) p at cut =
-      parts_apart es (and_parts (is_name e || ((not m.parts && is_part m e) || is_local_expression m e)) (are_local_arguments m es) lo).1 k p at cut
-  parts_apart (an_expr e es) lo zero p at cut =
-      part_alone p.0 p.1 cut (subst (λ e. (is_name e || ((not m.parts && is_part m e) || is_local_expression m e)) ≡ true) (part_is e p at)
-      (and_parts (is_name e || ((not m.parts && is_part m e) || is_local_expression m e)) (are_local_arguments m es) lo).0)
 
   -- a part, by what is told of it
   pub part_of_name : (n : Name) (e : Expression) → first_in_expression w.tree task w.scope (access_expr n (at_step e no_step)) ≡ None →
@@ -383,11 +359,11 @@ module _ (handing keeping : Bool) (task : TaskTree) (w : Where) (sound : IsSound
   pub call_well : (n : Name) (args : Expressions) → first_in_args w.tree task w.scope args ≡ None →
       first_of_call w.tree task w.scope (calling n (known_types w.tree w.scope args)) ≡ None →
       (IsCallTold n args → ArePassed forms w (params_at w.tree w.scope (task_named w.tree n) args) (param_types w.tree (task_named w.tree n)) args) →
-      ArePartsApart m w args → IsCallWell n args
-  call_well n args told e given apart =
+      IsCallWell n args
+  call_well n args told e given =
       let t = call_told n args e in
       let passed = given t in record {
         there = t.there;
-        callable = may_call handing keeping task w sound sound_task m local scope names head n args (local.tasks n t.there) told t.parts passed apart;
+        callable = may_call handing keeping task w sound sound_task m local scope names head n args (local.tasks n t.there) told t.parts passed;
         passed = passed;
       }

@@ -34,8 +34,8 @@ use Rattle.check_rules.specs.types.Params.{type_unless}
 use Rattle.check_rules.specs.types.Sorts.{is_collection, is_integer, is_space, may_be}
 use Rattle.check_rules.specs.types.TypedForms.{element_of, field_of}
 use Rattle.code_rules.specs.Slots.{Where}
-use Rattle.local_form.specs.LocalForm.{Marked, is_among, is_kept_apart, is_local_expression, is_local_form, takes_value}
-use Rattle.code_laws.specs.Handing.{forms_by}
+use Rattle.local_form.specs.LocalForm.{Marked, is_among, is_kept_apart, is_local_expression, is_local_form, takes_value, is_local_result}
+use Rattle.code_laws.specs.Handing.{forms_by, takes_by}
 use Rattle.code_laws.specs.Simple.{IsPartition, a_partition_type}
 use Rattle.code_laws.specs.Steps.{Forms}
 use Rattle.code_laws.specs.Typed.{GoesThrough, IsTyped, IsTypedForm, MayTouch, element_field, IsBehind, IsFieldOf, MayGo, field_behind}
@@ -52,12 +52,16 @@ use Rattle.code_laws.proofs.LocalTypes.{either}
 use Rattle.code_laws.proofs.TypedStatements.{first_stands, told_later, told_privileges}
 use Rattle.code_laws.proofs.Typing.{AreKept, no_way}
 use Rattle.code_laws.proofs.Wider.{assigned}
-use Rattle.scalar_form.specs.ScalarForm.{is_scalar_if_said}
 use Rattle.code_laws.proofs.LocalVariables.{at, headed, stands_as}
 use Rattle.regent_tree.specs.declared.typing.StaticType.{StaticType}
+use Rattle.code_laws.specs.Taking.{MayChange}
+
+may_change : (handing : Bool) (tree : Tree) (task : TaskTree) (by_loop : Bool) → by_loop ≡ false → MayChange (takes_by handing tree task) by_loop
+may_change false tree task by_loop e = tt
+may_change true tree task by_loop e = e
 
 module _ (handing keeping : Bool) (tree : Tree) (task : TaskTree) (sound : IsSound tree) (sound_task : IsSoundTask tree task) (m : Marked)
-    (local : IsLocalTree handing keeping m tree) (params : ℕ) (result : is_scalar_if_said task.result ≡ true) where
+    (local : IsLocalTree handing keeping m tree) (params : ℕ) (result : is_local_result task.result ≡ true) where
   abbrev forms : Forms
   forms = forms_by handing keeping tree task
 
@@ -90,8 +94,9 @@ module _ (handing keeping : Bool) (tree : Tree) (task : TaskTree) (sound : IsSou
       (first_stands s.known (stands (known_type tree s y) (spot_of_target (mistargets task s.names n no_step how.Set u) how.Set u)) [] parts.4).0) in
       let free = and_then (is_bound s.names n) (is_fixed task (bound_to s.names n)) there
       (or_parts (is_no_target task s.names n no_step u) (is_no_integer how.Set u) (told_later tree task s form e).0).0 in
-      let plain = (or_parts ((bound_to s.names n).by_loop || nat_lt (bound_to s.names n).number (length task.params)) (is_collection u) free).1 in
-      (value_assigned keeping s.names s.known (type_of tree s y) u a.value value kind plain fit, a.is, there)
+      let kinds = or_parts ((bound_to s.names n).by_loop || nat_lt (bound_to s.names n).number (length task.params)) (is_collection u) free in
+      let loop = (or_parts (bound_to s.names n).by_loop (nat_lt (bound_to s.names n).number (length task.params)) kinds.0).0 in
+      (value_assigned keeping s.names s.known (type_of tree s y) u a.value value kind kinds.1 fit, a.is, there, may_change handing tree task (bound_to s.names n).by_loop loop)
 
   pub reduce_local : (s : Scope) (line : ℕ) (n : Name) (o : Op) (y : Expression) → is_local_expression m y ≡ true → AreKept (parts_of_expression y) →
       IsSoundScope s → Ready s → first_of_form tree task s (assign_form n no_step (how.Reduce o) y) ≡ None →
@@ -104,12 +109,16 @@ module _ (handing keeping : Bool) (tree : Tree) (task : TaskTree) (sound : IsSou
       let target = option_or_parts (rule_if (not (is_bound s.names n)) rule.Name) _ (target_of_form tree task s sound scope form e) in
       let there = not-false (is_bound s.names n) (rule_none (not (is_bound s.names n)) rule.Name target.0) in
       let u = (bound_to s.names n).static_type in
-      let whole = not-false (may_be is_integer u) (or_parts (is_no_target task s.names n no_step u) (not (may_be is_integer u)) (told_later tree task s form e).0).1 in
+      let whole = or_parts (is_no_target task s.names n no_step u) (not (may_be is_integer u)) (told_later tree task s form e).0 in
+      let free = and_then (is_bound s.names n) (is_fixed task (bound_to s.names n)) there whole.0 in
+      let kinds = or_parts ((bound_to s.names n).by_loop || nat_lt (bound_to s.names n).number (length task.params)) (is_collection u) free in
       let may = stands_as handing keeping tree task sound sound_task m local params result s y integer_spot scope told (first_stands s.known (stands (known_type tree s y) integer_spot) [] parts.4).0 in (
         value_integer keeping s.names (type_of tree s y) a.value may,
-        kept_integer keeping m s.names n (bound_to s.names n).number u (named_kept keeping m s.names n names.names there) whole,
+        kept_integer keeping m s.names n (bound_to s.names n).number u (named_kept keeping m s.names n names.names there)
+            (not-false (may_be is_integer u) whole.1),
         a.is,
         there,
+        may_change handing tree task (bound_to s.names n).by_loop (or_parts (bound_to s.names n).by_loop (nat_lt (bound_to s.names n).number (length task.params)) kinds.0).0,
       )
 
   -- a target at a point of a region: its parts are typed, and its type is known

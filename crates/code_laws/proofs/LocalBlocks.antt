@@ -24,7 +24,7 @@ use Rattle.check_rules.specs.rules.Types.{is_ill_typed_at_place}
 use Rattle.check_rules.specs.scopes.Sound.{IsSound, IsSoundTask}
 use Rattle.check_rules.specs.types.KnownTypes.{known_type}
 use Rattle.check_rules.specs.types.Parts.{tests_of}
-use Rattle.local_form.specs.LocalForm.{Marked, are_local_arms, is_among, is_local_block, is_local_domain, is_local_else, is_local_expression, is_local_form}
+use Rattle.local_form.specs.LocalForm.{Marked, are_local_arms, is_among, is_local_block, is_local_domain, is_local_else, is_local_expression, is_local_form, is_local_result}
 use Rattle.statement_laws.specs.Steady.{ArePlaced}
 use Rattle.value_laws.specs.Spaces.{AreSpaced}
 use Rattle.code_laws.specs.Handing.{forms_by, told_in}
@@ -38,12 +38,12 @@ use Rattle.code_laws.proofs.LocalTargets.{behind_local, element_local}
 use Rattle.code_laws.proofs.LocalAssignments.{reduce_behind_local, reduce_field_local, reduce_local, set_behind_local, set_field_local, set_local}
 use Rattle.code_laws.proofs.LocalDomains.{domain_local}
 use Rattle.code_laws.proofs.LocalStatements.{bound_local, call_local, fill_local, print_local, return_local, test_local}
-use Rattle.code_laws.proofs.LocalDifferences.{begun_local}
+use Rattle.code_laws.proofs.LocalDifferences.{begun_local, said_begun}
 use Rattle.code_laws.proofs.LocalCuts.{both_local, by_field_local, either_local, equal_local}
 use Rattle.code_laws.proofs.LocalImages.{image_local, preimage_local}
 use Rattle.code_laws.proofs.LocalSpaced.{head_after, head_in_count, head_in_loop}
 use Rattle.code_laws.proofs.LocalSaid.{region_local, written_region_local}
-use Rattle.code_laws.proofs.LocalVariables.{VarTyped, at, said_local, unset_local}
+use Rattle.code_laws.proofs.LocalVariables.{VarTyped, at, unset_local}
 use Rattle.code_laws.proofs.Names.{Grown, arms_names, block_grown, else_names}
 use Rattle.regent_tree.proofs.Members.{Has, Has-append_right}
 use Rattle.regent_tree.specs.declared.typing.Bound.{Bound}
@@ -52,7 +52,6 @@ use Rattle.regent_tree.specs.declared.typing.StaticType.TheVariants.{Index as in
 use Rattle.code_laws.specs.Simple.{IsScalar, scalar_integer, scalar_truth}
 use Rattle.code_laws.proofs.TypedStatements.{first_stands, sum_scalar}
 use Rattle.code_laws.proofs.Typing.{AreKept, kept_behind, kept_left, kept_right, no_way, no_way_back}
-use Rattle.scalar_form.specs.ScalarForm.{is_scalar_if_said}
 use Rattle.code_laws.proofs.LocalValues.{any_looped}
 
 -- names are among those that have grown of them
@@ -77,7 +76,7 @@ scalar_told _ scalar_truth = refl
 
 module _ (handing keeping : Bool) (tree : Tree) (task : TaskTree) (sound : IsSound tree) (sound_task : IsSoundTask tree task) (m : Marked)
     (local : IsLocalTree handing keeping m tree) (keeps : (n : Name) → (is_among m.pointers n ≡ true) ⊎ (is_among m.partitions n ≡ true) → keeping ≡ true) (hands : keeping ≡ true → handing ≡ true)
-    (params : ℕ) (result : is_scalar_if_said task.result ≡ true) where
+    (params : ℕ) (result : is_local_result task.result ≡ true) where
   abbrev forms : Forms
   forms = forms_by handing keeping tree task
 
@@ -138,7 +137,8 @@ module _ (handing keeping : Bool) (tree : Tree) (task : TaskTree) (sound : IsSou
       let v = begun_local handing keeping tree task sound sound_task m local params result (λ q h. keeps q (inr h)) s line n y lo k scope names up e in
       var_ready s line n None (Some (plain_initializer y)) k scope names up e v
   var_local s line n (Some t) (Some (plain_initializer y)) lo k scope names up e =
-      let v = said_local handing keeping tree task sound sound_task m local params result s line n t y lo k scope names e in var_ready s line n (Some t) (Some (plain_initializer y)) k scope names up e v
+      let v = said_begun handing keeping tree task sound sound_task m local params result (λ q h. keeps q (inr h)) s line n t y lo k scope names e in
+      var_ready s line n (Some t) (Some (plain_initializer y)) k scope names up e v
   var_local s line n (Some t) None lo k scope names up e =
       let v = unset_local handing keeping tree task sound sound_task m local params result s line n t lo scope names e in var_ready s line n (Some t) None k scope names up e v
   var_local s line n None None lo k scope names up e = absurd (no_way (told_of_form tree task s sound scope (var_form n None None) e).1)

@@ -6,6 +6,7 @@ use Rattle.std.proofs.lemmas.Bool.{eq-eqb, not-false}
 use Rattle.std.proofs.lemmas.Option.{none-some}
 use Rattle.plain_values.proofs.Plain.{option_or_parts}
 use Rattle.constraint_check.proofs.Table.{is_subregion-derivable}
+use Rattle.constraint_check.specs.Derivations.{IsBelow}
 use Rattle.regent_tree.proofs.Members.{Has}
 use Rattle.regent_tree.specs.Accesses.{space_in}
 use Rattle.regent_tree.specs.Facts.{is_subregion, is_unknown}
@@ -49,12 +50,12 @@ use Rattle.code_laws.specs.Pointers.{AllGoToParams}
 use Rattle.code_laws.specs.Simple.{AreRegions, IsRegion, a_region_type, term_in, two_regions}
 use Rattle.code_laws.specs.Steps.{Forms, Taking}
 use Rattle.code_laws.specs.Taking.{MayDo, pairs_in}
-use Rattle.code_laws.specs.Arguments.{AreDivided, AreMet, AreParted, BeganWithin, IsCutName, IsMet, IsMetAt, IsMetPart, IsPart, IsPartBelow, IsParted, IsPartedAt, name_at, name_of, parent_bound, part_at}
+use Rattle.code_laws.specs.Arguments.{AreDivided, AreMet, AreParted, BeganWithin, IsCutName, IsMet, IsMetAt, IsMetPart, IsPart, IsPartBelow, IsParted, IsPartedAt, IsPieceBelow, LandsIn, name_at, name_of, parent_bound, part_at}
 use Rattle.code_laws.specs.Typed.{ArePassed, IsCallable}
 use Rattle.code_laws.proofs.Arguments.{first_region, named_typed, part_is, part_space}
 use Rattle.code_laws.proofs.DeclaredNeeds.{IsDeclared, need_declared, pair_constrained}
 use Rattle.code_laws.proofs.KnownHeads.{KnowsHead, kept_may, may_touch}
-use Rattle.code_laws.proofs.KnownParts.{Began, IsPaired, name_within, names_below, part_below, part_over, whole_may, whole_within}
+use Rattle.code_laws.proofs.KnownParts.{Began, IsPaired, name_within, part_below, part_landed, part_over, whole_may, whole_within}
 use Rattle.code_laws.proofs.LocalBegan.{began_within, below_told}
 use Rattle.code_laws.proofs.LocalGiven.{IsGivenAt, IsHandedAt, IsPartAt, handed_at, one_colour, same_name, IsCutBy, child_term}
 use Rattle.code_laws.proofs.LocalNames.{AllKept, IsKept, kept_partition, kept_region, kept_scalar, kept_value, named_kept, parent_among, region_of_number}
@@ -64,10 +65,6 @@ use Rattle.code_laws.proofs.Typing.{no_way_back}
 use Rattle.code_laws.proofs.Values.{scalar_simple}
 
 -- ---- regions and their types
-
-abbrev IsName : Term → Type 0
-IsName (term.Name j) = Unit {0}
-IsName (term.Child q c) = ⊥
 
 abbrev partition_in : Term → ℕ
 partition_in (term.Name j) = 0
@@ -123,7 +120,12 @@ parted_names true y w es p m = inl m
 parted_below : (keeps : Bool) (y : Taking) (w : Where) (es : Expressions) (p : ℕ × ℕ) → keeps ≡ true →
     IsPartBelow y w (part_at es p.0) (name_at es p.1) (part_at es p.1) → IsPartedAt keeps y w es p
 parted_below false y w es p e m = absurd (no_way_back e)
-parted_below true y w es p e m = inr m
+parted_below true y w es p e m = inr (inl m)
+
+parted_piece : (keeps : Bool) (y : Taking) (w : Where) (es : Expressions) (p : ℕ × ℕ) → keeps ≡ true →
+    IsPieceBelow y w (name_at es p.0) (part_at es p.0) (part_at es p.1) → IsPartedAt keeps y w es p
+parted_piece false y w es p e m = absurd (no_way_back e)
+parted_piece true y w es p e m = inr (inr m)
 
 -- what isn't a name is a part
 no_name : (es : Expressions) (k : ℕ) (p : Name × Expression) → part_at es k ≡ Some p → name_at es k ≡ None
@@ -132,10 +134,6 @@ no_name (an_expr e es) zero p at = ap name_of (part_is e p at)
 no_name (an_expr e es) (suc k) p at = no_name es k p at
 
 -- ---- a call
-
--- a part is an argument only where no variable begins as one
-abbrev pub ArePartsApart : Marked → Where → Expressions → Type 0
-ArePartsApart m w args = (k : ℕ) (p : Name × Expression) → part_at args k ≡ Some p → IsCutName w p.0 → m.parts ≡ false
 
 module _ (keeping : Bool) (task : TaskTree) (w : Where) (sound : IsSound w.tree) (sound_task : IsSoundTask w.tree task) (m : Marked)
     (scope : IsSoundScope w.scope) (names : AllKept keeping m w.scope.names) (head : KnowsHead m w.tree task w.scope) where
@@ -176,8 +174,7 @@ module _ (keeping : Bool) (task : TaskTree) (w : Where) (sound : IsSound w.tree)
       (parts : IsFlawless w.tree task w.scope (calling n (known_types w.tree w.scope args)))
       (callee_sound : IsSoundTask w.tree (task_named w.tree n))
       (callee_named : (sp i : ℕ) → i < length (space_at w.tree sp).fields → Has (fields_named w.tree sp None) i)
-      (passed : ArePassed (forms_by true keeping w.tree task) w (params_at w.tree w.scope (task_named w.tree n) args) (param_types w.tree (task_named w.tree n)) args)
-      (apart : ArePartsApart m w args) where
+      (passed : ArePassed (forms_by true keeping w.tree task) w (params_at w.tree w.scope (task_named w.tree n) args) (param_types w.tree (task_named w.tree n)) args) where
     abbrev t : TaskTree
     t = task_named w.tree n
 
@@ -265,6 +262,13 @@ module _ (keeping : Bool) (task : TaskTree) (w : Where) (sound : IsSound w.tree)
         (subst (λ u. is_not_within w.scope.known ta u ≡ false) b
         (subst (λ u. is_not_within w.scope.known u (type_at types (place_in t.params upper)) ≡ false) a whole))
 
+    -- a region lies within the part of a colour
+    lands : (q : Name × Expression) → IsCutName w q.0 → (i : ℕ) → IsBelow w.scope.known (term.Name i) (term.Child (bound w q.0).number (colour_of w.scope q.1)) →
+        not (is_unknown (colour_of w.scope q.1)) ≡ true → LandsIn y w i q
+    lands q cut i below certain =
+        let l = part_landed w.tree task w.scope head i (bound w q.0).number (colour_of w.scope q.1) below in
+        record { cut = cut; upper = l.upper; up = l.up; behind = l.high; piece = l.piece; certain = certain }
+
     -- by what stands at the places of a constraint
     parted_as : (p : ℕ × ℕ) (lower upper : Name) → Has t.clauses (clause.Within lower upper) → (place_in t.params lower ≡ p.0) → (place_in t.params upper ≡ p.1) →
         IsGivenAt forms y refl w args (place_in t.params lower) (type_at ps (place_in t.params lower)) →
@@ -325,12 +329,8 @@ module _ (keeping : Bool) (task : TaskTree) (w : Where) (sound : IsSound w.tree)
         let q = (is_subregion-derivable w.scope.known (term.Child i ka) (term.Child j kb)).0
         (subst (λ u. is_subregion w.scope.known (term.Child i ka) u ≡ true) (cb.part b.index)
         (subst (λ u. is_subregion w.scope.known u (term_in (typed w (access_expr b.name (at_step b.index no_step)))) ≡ true) (ca.part a.index) lies)) in
-        let alike : term.Child j kb ≡ term.Child i ka =
-        ⊎_elim (λ e. e)
-        (λ below. absurd (subst IsName (sym (names_below w.tree task w.scope head (apart (place_in t.params upper) (b.name, b.index) b.at b.cut) (term.Name r) (term.Child j kb) below r refl).1) tt))
-        (part_over w.tree task w.scope head i r ka (is_disjoint (bound w a.name).static_type) (bound w a.name)
-        (bound_among w.scope.names a.name a.cut.named) refl ca.is (term.Child j kb)
-        (part_below w.tree task w.scope head (term.Child i ka) (term.Child j kb) q.below i ka refl)) in
+        ⊎_elim
+        (λ (alike : term.Child j kb ≡ term.Child i ka).
         let name = same_name w scope.numbers a.name b.name a.cut.named b.cut.named (sym (ap partition_in alike)) in
         let colour = one_colour forms w scope.numbers a.index b.index a.indexed b.indexed (sym (ap colour_in alike))
         (subst (λ c. not (is_unknown c) ≡ true) (ap colour_in alike) q.certain) in
@@ -338,7 +338,17 @@ module _ (keeping : Bool) (task : TaskTree) (w : Where) (sound : IsSound w.tree)
         (subst (λ j. IsPartBelow y w (part_at args (place_in t.params lower)) (name_at args j) (part_at args j)) high
         (subst (λ o. IsPartBelow y w o (name_at args (place_in t.params upper)) (part_at args (place_in t.params upper))) (sym a.at)
         (subst (λ o. IsPartBelow y w (Some (a.name, a.index)) o (part_at args (place_in t.params upper))) (sym (no_name args (place_in t.params upper) (b.name, b.index) b.at))
-        (subst (IsPartBelow y w (Some (a.name, a.index)) None) (sym b.at) (a.cut, name, colour))))))
+        (subst (IsPartBelow y w (Some (a.name, a.index)) None) (sym b.at) (a.cut, name, colour)))))))
+        (λ below.
+        let land = lands (b.name, b.index) b.cut r below q.certain in
+        parted_piece keeping y w args p a.keeps (subst (λ i. IsPieceBelow y w (name_at args i) (part_at args i) (part_at args p.1)) low
+        (subst (λ j. IsPieceBelow y w (name_at args (place_in t.params lower)) (part_at args (place_in t.params lower)) (part_at args j)) high
+        (subst (λ o. IsPieceBelow y w o (part_at args (place_in t.params lower)) (part_at args (place_in t.params upper))) (sym (no_name args (place_in t.params lower) (a.name, a.index) a.at))
+        (subst (λ o. IsPieceBelow y w None o (part_at args (place_in t.params upper))) (sym a.at)
+        (subst (IsPieceBelow y w None (Some (a.name, a.index))) (sym b.at) (a.cut, ca.named, land)))))))
+        (part_over w.tree task w.scope head i r ka (is_disjoint (bound w a.name).static_type) (bound w a.name)
+        (bound_among w.scope.names a.name a.cut.named) refl ca.is (term.Child j kb)
+        (part_below w.tree task w.scope head (term.Child i ka) (term.Child j kb) q.below i ka refl))
     parted_as p lower upper said low high (inl a) (inr b) =
         let cb = cut_by b.name b.cut in
         let ta = (bound w a.name).static_type in
@@ -352,7 +362,12 @@ module _ (keeping : Bool) (task : TaskTree) (w : Where) (sound : IsSound w.tree)
         let q = (is_subregion-derivable w.scope.known (term.Name i) (term.Child j kb)).0
         (subst (λ u. is_subregion w.scope.known (term.Name i) u ≡ true) (cb.part b.index)
         (subst (λ u. is_subregion w.scope.known u (term_in (typed w (access_expr b.name (at_step b.index no_step)))) ≡ true) kept_a lies)) in
-        absurd (subst IsName (sym (names_below w.tree task w.scope head (apart (place_in t.params upper) (b.name, b.index) b.at b.cut) (term.Name i) (term.Child j kb) q.below i refl).1) tt)
+        let land = lands (b.name, b.index) b.cut i q.below q.certain in
+        parted_piece keeping y w args p b.keeps (subst (λ i. IsPieceBelow y w (name_at args i) (part_at args i) (part_at args p.1)) low
+        (subst (λ j. IsPieceBelow y w (name_at args (place_in t.params lower)) (part_at args (place_in t.params lower)) (part_at args j)) high
+        (subst (λ o. IsPieceBelow y w o (part_at args (place_in t.params lower)) (part_at args (place_in t.params upper))) (sym a.at)
+        (subst (IsPieceBelow y w (Some a.name) (part_at args (place_in t.params lower))) (sym b.at)
+        (record { named = a.there; numbers = scope.numbers; region = ra }, kept_a, land)))))
 
     parted : (p : ℕ × ℕ) → Has (pairs_in (scope_of w.tree t).known) p → IsPartedAt keeping y w args p
     parted p h =

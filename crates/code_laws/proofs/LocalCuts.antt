@@ -34,7 +34,7 @@ use Rattle.check_rules.specs.scopes.Variables.{known_initializer, stands_declare
 use Rattle.check_rules.specs.types.KnownTypes.{known_type}
 use Rattle.check_rules.specs.types.Lookup.{names_a, region_has}
 use Rattle.check_rules.specs.types.Sorts.{is_partition, is_region, may_be}
-use Rattle.local_form.specs.LocalForm.{Marked, is_among, is_local_expression}
+use Rattle.local_form.specs.LocalForm.{Marked, is_among, is_local_expression, is_local_result}
 use Rattle.code_laws.specs.Arguments.{ArePaired}
 use Rattle.code_laws.specs.Handing.{forms_by}
 use Rattle.code_laws.specs.Simple.{IsPartition, IsRegion, IsSpace, a_partition_type, term_in}
@@ -52,14 +52,13 @@ use Rattle.code_laws.proofs.LocalValues.{IsRegionAmong, bound_among, value_space
 use Rattle.code_laws.proofs.LocalVariables.{VarTyped, at, headed, stands_as}
 use Rattle.code_laws.proofs.TypedStatements.{first_stands}
 use Rattle.code_laws.proofs.Typing.{AreKept}
-use Rattle.scalar_form.specs.ScalarForm.{is_scalar_if_said}
 
 -- two partitions have one parent where the rules don't tell otherwise
 pub parents_same : (t u : StaticType) → IsPartition t → IsPartition u → have_other_parents t u ≡ false → parent_of t ≡ parent_of u
 parents_same _ _ (a_partition_type d r p) (a_partition_type e s q) h = eqb-true r s (not-false _ h)
 
 module _ (handing keeping : Bool) (tree : Tree) (task : TaskTree) (sound : IsSound tree) (sound_task : IsSoundTask tree task) (m : Marked)
-    (local : IsLocalTree handing keeping m tree) (params : ℕ) (result : is_scalar_if_said task.result ≡ true) (keeps : (q : Name) → is_among m.partitions q ≡ true → keeping ≡ true) where
+    (local : IsLocalTree handing keeping m tree) (params : ℕ) (result : is_local_result task.result ≡ true) (keeps : (q : Name) → is_among m.partitions q ≡ true → keeping ≡ true) where
   abbrev forms : Forms
   forms = forms_by handing keeping tree task
 

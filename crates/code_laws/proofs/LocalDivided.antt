@@ -35,7 +35,7 @@ use Rattle.check_rules.specs.rules.Partitions.{is_parent, mispartition_in, mispa
 use Rattle.expression_laws.proofs.Params.{param_type}
 use Rattle.value_laws.specs.Spaces.{HasSpacedDeclarations}
 use Rattle.code_laws.proofs.CallCuts.{passes_no_cut, regions_no_cut}
-use Rattle.code_laws.proofs.LocalCalls.{ArePartsApart, calls_handed, kept_term, cut_by, name_type, part_type}
+use Rattle.code_laws.proofs.LocalCalls.{calls_handed, kept_term, cut_by, name_type, part_type}
 use Rattle.code_laws.proofs.Arguments.{IsCutArgument, IsPartArgument, handed_name, handed_part}
 use Rattle.code_laws.proofs.Wider.{passing}
 use Rattle.code_laws.proofs.LocalNames.{AreScalars}
@@ -198,9 +198,9 @@ pub may_call : (handing keeping : Bool) (task : TaskTree) (w : Where) → IsSoun
     IsSoundScope w.scope → AllKept keeping m w.scope.names → KnowsHead m w.tree task w.scope → (n : Name) (args : Expressions) → IsLocalTask handing keeping w.tree n →
     first_in_args w.tree task w.scope args ≡ None → IsFlawless w.tree task w.scope (calling n (known_types w.tree w.scope args)) →
     ArePassed (forms_by handing keeping w.tree task) w (params_at w.tree w.scope (task_named w.tree n) args) (param_types w.tree (task_named w.tree n)) args →
-    ArePartsApart m w args → IsCallable (forms_by handing keeping w.tree task) w n args
-may_call false keeping task w sound sound_task m local scope names head n args l told parts passed apart =
+    IsCallable (forms_by handing keeping w.tree task) w n args
+may_call false keeping task w sound sound_task m local scope names head n args l told parts passed =
     (l.called, subst (AreMet keeping None w args) (sym (l.alone refl).needs) tt, tt, l.goals, none_divided w args 0 (param_types w.tree (task_named w.tree n)) (l.alone refl).params)
-may_call true keeping task w sound sound_task m local scope names head n args l told parts passed apart =
-    calls_handed keeping task w sound sound_task m scope names head n args told parts (sound.tasks (task_named w.tree n) l.stands) local.named passed apart l.called l.goals
+may_call true keeping task w sound sound_task m local scope names head n args l told parts passed =
+    calls_handed keeping task w sound sound_task m scope names head n args told parts (sound.tasks (task_named w.tree n) l.stands) local.named passed l.called l.goals
     (divided_told keeping task w sound sound_task m scope names head local.declared n args told parts passed)

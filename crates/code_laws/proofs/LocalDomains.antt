@@ -22,7 +22,7 @@ use Rattle.check_rules.specs.rules.Types.{may_stand}
 use Rattle.check_rules.specs.scopes.Sound.{IsSound, IsSoundTask}
 use Rattle.check_rules.specs.types.KnownTypes.{known_type}
 use Rattle.code_rules.specs.Slots.{Where}
-use Rattle.local_form.specs.LocalForm.{Marked, is_among, is_local_expression, is_local_domain, is_region_name, is_part}
+use Rattle.local_form.specs.LocalForm.{Marked, is_among, is_local_expression, is_local_domain, is_region_name, is_part, is_local_result}
 use Rattle.code_laws.specs.Handing.{forms_by}
 use Rattle.code_laws.specs.Simple.{IsRegion, IsSpace, a_space_type, simple_index}
 use Rattle.code_laws.specs.Steps.{Forms}
@@ -33,7 +33,6 @@ use Rattle.code_laws.proofs.LocalNames.{IsKept, IsLocalTree, kept_region, kept_s
 use Rattle.code_laws.proofs.LocalTypes.{either}
 use Rattle.code_laws.proofs.Typing.{AreKept, no_way_back}
 use Rattle.code_laws.proofs.Values.{scalar_simple}
-use Rattle.scalar_form.specs.ScalarForm.{is_scalar_if_said}
 use Rattle.code_laws.proofs.LocalValues.{IsValue, space_looped, value_domain, value_pointer, value_read, value_simple}
 use Rattle.code_laws.specs.Pointers.{IsRead}
 use Rattle.regent_tree.specs.declared.types.Kind.{Kind}
@@ -48,7 +47,7 @@ use Rattle.code_laws.proofs.LocalArguments.{IsArgument}
 use Rattle.regent_tree.specs.declared.typing.Bound.{Bound}
 
 module _ (handing keeping : Bool) (tree : Tree) (task : TaskTree) (sound : IsSound tree) (sound_task : IsSoundTask tree task) (m : Marked)
-    (local : IsLocalTree handing keeping m tree) (params : ℕ) (result : is_scalar_if_said task.result ≡ true) where
+    (local : IsLocalTree handing keeping m tree) (params : ℕ) (result : is_local_result task.result ≡ true) where
   abbrev forms : Forms
   forms = forms_by handing keeping tree task
 

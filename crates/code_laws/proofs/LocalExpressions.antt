@@ -41,7 +41,8 @@ use Rattle.code_laws.proofs.KnownHeads.{KnowsHead}
 use Rattle.code_laws.proofs.LocalElements.{element_well}
 use Rattle.code_laws.proofs.LocalSteps.{further_at, further_behind}
 use Rattle.code_laws.proofs.LocalNulls.{cast_well, is_null_well, null_well}
-use Rattle.code_laws.proofs.LocalParts.{and_then, given_result}
+use Rattle.code_laws.proofs.LocalParts.{and_then, given_result, given_scalar}
+use Rattle.code_laws.proofs.Wider.{zero_simple}
 use Rattle.code_laws.proofs.LocalNames.{AllKept, AreScalars, AreTakable, IsLocalTree, named_kept, no_partition_kept, kept_as_value, partition_keeps, partition_or}
 use Rattle.code_laws.proofs.LocalPlaces.{named_place}
 use Rattle.code_laws.proofs.LocalTypes.{left_alone, operated_number, simple_computed}
@@ -52,7 +53,7 @@ use Rattle.code_laws.proofs.Values.{scalar_simple}
 use Rattle.code_laws.proofs.LocalSigns.{signed_well}
 use Rattle.code_laws.proofs.LocalValues.{IsValue, integer_converts, value_after, value_compared, value_computed, value_counts, value_integer, value_operated, value_simple, value_truths}
 use Rattle.code_laws.proofs.LocalPoints.{IsWell, at_point, behind_name, cut_name, gone, held_well, is_behind, local_known, name_there, scalar_well, touched}
-use Rattle.code_laws.proofs.LocalArguments.{IsArgument, IsCallWell, argument_of, call_well, given_one, name_well, part_of_name, parts_apart}
+use Rattle.code_laws.proofs.LocalArguments.{IsArgument, IsCallWell, argument_of, call_well, given_one, name_well, part_of_name}
 
 module _ (handing keeping : Bool) (task : TaskTree) (w : Where) (sound : IsSound w.tree) (sound_task : IsSoundTask w.tree task) (m : Marked)
     (local : IsLocalTree handing keeping m w.tree) (scope : IsSoundScope w.scope) (names : AllKept keeping m w.scope.names) (head : KnowsHead m w.tree task w.scope) where
@@ -215,11 +216,16 @@ module _ (handing keeping : Bool) (task : TaskTree) (w : Where) (sound : IsSound
         let p = call_well handing keeping task w sound sound_task m local scope names head n args told.0 called.0
         (λ t. local_given (known_types w.tree w.scope args) (types_of w.tree w.scope args) (param_types w.tree (task_named w.tree n)) args lo
         (kept_behind node (parts_of_expressions args) k) (local.tasks n t.there).params (λ q. ((local.tasks n t.there).alone q).params) told.0 t.standing t.fits
-        t.many) (parts_apart handing keeping task w sound sound_task m local scope names head args lo) in
+        t.many) in
         let given = rule_none (has_no_result w.tree c) rule.Type called.1 in
         let some = and_then (has_task w.tree n) (is_none (task_named w.tree n).result) p.there given in
-        let scalar = given_result w.tree (task_named w.tree n).result (local.tasks n p.there).result some in
-        scalar_well handing keeping task w sound sound_task m local scope names head (call_expr n args) (refl, scalar, p.callable, p.passed) scalar
+        let zero = given_result w.tree (task_named w.tree n).result (local.tasks n p.there).result some in
+        let simple = zero_simple _ zero in record {
+          is = (refl, zero, p.callable, p.passed);
+          value = value_simple _ simple;
+          scalar = λ q. given_scalar w.tree (task_named w.tree n).result (local.givers n p.there (not-true (is_among m.index_tasks n) q)) some;
+          plain = λ q. simple;
+        }
     local_well (space_expr kind e) lo k none =
         let told = option_or_parts (first_in_expression w.tree task w.scope e) _ none in
         let a = local_well e lo (kept_behind node (parts_of_expression e) k) told.0 in
@@ -304,7 +310,7 @@ module _ (handing keeping : Bool) (task : TaskTree) (w : Where) (sound : IsSound
     local_given all types (p ∷ ps) no_expr lo k takable alone told standing fits many = absurd (omega (arith, many))
     local_given all types [] (an_expr e es) lo k takable alone told standing fits many = absurd (omega (arith, many))
     local_given all types (p ∷ ps) (an_expr e es) lo k takable alone told standing fits many =
-        let s = and_parts (is_name e || ((not m.parts && is_part m e) || is_local_expression m e)) (are_local_arguments m es) lo in
+        let s = and_parts (is_name e || (is_part m e || is_local_expression m e)) (are_local_arguments m es) lo in
         let parts = option_or_parts (first_in_expression w.tree task w.scope e) _ told in
         let k_e = kept_left (parts_of_expression e) (parts_of_expressions es) k in
         let a = argument_of handing keeping task w sound sound_task m local scope names head e s.0 parts.0 (λ part. local_part e part k_e parts.0)
@@ -322,7 +328,6 @@ module _ (handing keeping : Bool) (task : TaskTree) (w : Where) (sound : IsSound
   local_call n args lo k told e = call_well handing keeping task w sound sound_task m local scope names head n args told e
       (λ t. local_given (known_types w.tree w.scope args) (types_of w.tree w.scope args) (param_types w.tree (task_named w.tree n)) args lo k
       (local.tasks n t.there).params (λ q. ((local.tasks n t.there).alone q).params) told t.standing t.fits t.many)
-      (parts_apart handing keeping task w sound sound_task m local scope names head args lo)
 
   -- two that an operator computes with
   pub record AreOperands (o : Arithmetic) (first e : Expression) : Type 0 where

@@ -32,12 +32,13 @@ use Rattle.code_laws.proofs.LocalValues.{AreAmong, IsValue, alike_assigned, alik
 use Rattle.code_laws.proofs.Typing.{no_way, no_way_back}
 use Rattle.code_laws.proofs.Values.{scalar_simple}
 
--- the names of fields that are marked: those that hold indices, and those that hold pointers
+-- the names of fields that are marked: those that hold indices, and those that hold pointers; and those of tasks that give
+-- an index
 abbrev pub FieldMarks : Type 0
-FieldMarks = List Name × List Name
+FieldMarks = List Name × List Name × List Name
 
 abbrev pub fields_of : Marked → FieldMarks
-fields_of m = (m.index_fields, m.pointer_fields)
+fields_of m = (m.index_fields, m.pointer_fields, m.index_tasks)
 
 abbrev pub is_marked : FieldMarks → Name → Bool
 is_marked marked f = is_among marked.0 f || is_among marked.1 f

@@ -28,7 +28,7 @@ use Rattle.check_rules.specs.types.Declarations.{known_field}
 use Rattle.check_rules.specs.types.Lookup.{names_a, region_has}
 use Rattle.check_rules.specs.types.Sorts.{is_partition, is_region, is_unknown_type}
 use Rattle.code_rules.specs.Slots.{Where}
-use Rattle.local_form.specs.LocalForm.{Marked, is_among}
+use Rattle.local_form.specs.LocalForm.{Marked, is_among, is_local_result}
 use Rattle.code_laws.specs.Arguments.{LiesBelow}
 use Rattle.code_laws.specs.Handing.{forms_by, takes_by}
 use Rattle.code_laws.specs.Simple.{IsPartition, IsRegion, a_partition_type, a_region_type, term_in}
@@ -43,7 +43,6 @@ use Rattle.code_laws.proofs.LocalNames.{IsLocalTree, parent_among, region_of_num
 use Rattle.code_laws.proofs.LocalParts.{and_then}
 use Rattle.code_laws.proofs.LocalVariables.{at}
 use Rattle.code_laws.proofs.Typing.{no_way_back}
-use Rattle.scalar_form.specs.ScalarForm.{is_scalar_if_said}
 
 -- a region lies within another where it isn't told to be outside
 within_told : (known : List Known) (i : ℕ) (t : StaticType) → IsRegion t → is_outside known i t ≡ false → is_subregion known (place.Name i) (term_in t) ≡ true
@@ -57,7 +56,7 @@ region_known : (t : StaticType) → IsRegion t → is_unknown_type t ≡ false
 region_known _ (a_region_type k sp args r) = refl
 
 module _ (handing keeping : Bool) (tree : Tree) (task : TaskTree) (sound : IsSound tree) (sound_task : IsSoundTask tree task) (m : Marked)
-    (local : IsLocalTree handing keeping m tree) (params : ℕ) (result : is_scalar_if_said task.result ≡ true)
+    (local : IsLocalTree handing keeping m tree) (params : ℕ) (result : is_local_result task.result ≡ true)
     (keeps : (q : Name) → is_among m.partitions q ≡ true → keeping ≡ true) (hands : keeping ≡ true → handing ≡ true) where
   abbrev forms : Forms
   forms = forms_by handing keeping tree task

@@ -1,5 +1,5 @@
 -- The fields of a text of the form: each is a number, a truth, an index or a pointer, and the names of those that hold indices
--- or pointers are marked in each task, as no statement marks a field.
+-- or pointers are marked in each task, as no statement marks a field. So are the names of tasks that give an index.
 use Rattle.std.proofs.Common.{◌≡◌, inl, inr, Bool, List, [], ◌∷◌, ◌++◌, None, Some, false, true, refl, ap, sym, subst, suc, ◌∙◌, arith, cond}
 use Rattle.std.specs.Prelude.{bytes_eq, get_or, map, ◌||◌, ◌+◌}
 use Rattle.std.proofs.lemmas.Bool.{and_parts}
@@ -14,7 +14,7 @@ use Rattle.regent_tree.specs.declared.types.Param.{Param}
 use Rattle.regent_tree.specs.declared.types.TypeTerm.{TypeTerm}
 use Rattle.regent_tree.specs.declared.types.TypeTerm.TheVariants as term
 use Rattle.check_laws.proofs.Parameters.{place_step}
-use Rattle.local_form.specs.LocalForm.{Marked, are_local_fields, are_scalar_params, gives_pointer, gives_scalar, is_among, is_difference, is_index_or_space, is_index_term, is_local_field, is_partition_term, is_pointer_term, gives_points, is_region_term, marked_by, marked_by_arms, marked_by_else, marked_by_item, marked_by_items, marked_by_task, marked_by_term, marked_field, marked_fields, marked_in, marked_param, marked_params, takes_part, unmarked, with_either, with_index, with_index_field, with_part, with_partition, with_pointer, with_pointer_field, with_region}
+use Rattle.local_form.specs.LocalForm.{Marked, are_local_fields, are_scalar_params, gives_pointer, gives_scalar, is_among, is_difference, is_index_or_space, is_index_term, is_local_field, is_partition_term, is_pointer_term, gives_points, is_region_term, marked_by, marked_by_arms, marked_by_else, marked_by_item, marked_by_items, marked_by_task, marked_by_term, marked_field, marked_fields, marked_in, marked_param, marked_params, takes_part, unmarked, with_either, with_index, with_index_field, with_partition, with_pointer, with_pointer_field, with_region, is_index_if_said, with_index_task}
 use Rattle.code_laws.proofs.LocalFields.{FieldMarks, field_pointer, fields_of, IsFieldTerm, field_index, field_scalar}
 use Rattle.code_laws.proofs.Typing.{no_way_back}
 use Rattle.scalar_form.specs.ScalarForm.{is_scalar_term}
@@ -30,9 +30,9 @@ pub among_added : (ns : List Name) (p n : Name) → p ≡ n → is_among (ns ++ 
 among_added ns p n same =
     list_any-from_Has (λ k. bytes_eq k n) (ns ++ p ∷ []) p (Has-append_right ns (p ∷ []) p (inl refl)) ((bytes_eq-Decides p n).1 same)
 
--- ---- no statement marks a field
+-- ---- no statement marks a field or a task
 
--- what is marked of fields
+-- what is marked of these
 abbrev Fields : Marked → FieldMarks
 Fields m = fields_of m
 
@@ -43,7 +43,7 @@ either_fields false n m = refl
 value_fields : (k : Name) (e : Expression) (m : Marked) → Fields (marked_by (var_form k None (Some (plain_initializer e))) m) ≡ Fields m
 value_fields k e m = apart (is_difference m e) (takes_part m e) (gives_scalar m e)
   where
-    apart : (b d c : Bool) → Fields (cond b (with_partition k m) (cond d (with_part k m) (cond c m (with_either (gives_pointer m e) k m)))) ≡ Fields m
+    apart : (b d c : Bool) → Fields (cond b (with_partition k m) (cond d (with_region k m) (cond c m (with_either (gives_pointer m e) k m)))) ≡ Fields m
     apart true d c = refl
     apart false true c = refl
     apart false false true = refl
@@ -103,7 +103,7 @@ params_fields (p ∷ ps) m = params_fields ps (marked_param p m) ∙ one (is_reg
     one false false false false = refl
 
 -- so a task has what the program marks
-task_fields : (tree : Tree) (t : TaskTree) → Fields (marked_by_task tree t) ≡ Fields (marked_by_items tree unmarked)
+pub task_fields : (tree : Tree) (t : TaskTree) → Fields (marked_by_task tree t) ≡ Fields (marked_by_items tree unmarked)
 task_fields tree t =
     block_fields t.body (marked_params t.params (marked_by_items tree unmarked)) ∙ params_fields t.params (marked_by_items tree unmarked)
 
@@ -129,6 +129,7 @@ module _ (n : Name) where
 
   -- of either kind: a claim on marks that a field space's field makes, and that stays
   module _ (Is : Marked → Type 0) (holds : Param → Bool) (stays : (p : Param) (m : Marked) → Is m → Is (marked_field p m))
+      (result_stays : (k : Name) (m : Marked) → Is m → Is (with_index_task k m))
       (marks : (p : Param) (m : Marked) → holds p ≡ true → p.name ≡ n → Is (marked_field p m)) where
     fields_keep : (ps : List Param) (m : Marked) → Is m → Is (marked_fields ps m)
     fields_keep [] m h = h
@@ -140,12 +141,16 @@ module _ (n : Name) where
     field_makes (q ∷ ps) m p (inl here) e same =
         fields_keep ps (marked_field q m) (marks q m (ap holds here ∙ e) (ap (λ (x : Param). x.name) here ∙ same))
 
+    result_keeps : (b : Bool) (k : Name) (m : Marked) → Is m → Is (cond b (with_index_task k m) m)
+    result_keeps true k m h = result_stays k m h
+    result_keeps false k m h = h
+
     item_keeps : (i : ItemForm) (m : Marked) → Is m → Is (marked_by_item i m)
     item_keeps import_item m h = h
     item_keeps (alias_item k) m h = h
     item_keeps (start_item k) m h = h
     item_keeps (space_item s) m h = fields_keep s.fields m h
-    item_keeps (task_item t) m h = h
+    item_keeps (task_item t) m h = result_keeps (is_index_if_said t.result) t.name m h
 
     items_keep : (items : Tree) (m : Marked) → Is m → Is (marked_by_items items m)
     items_keep [] m h = h
@@ -187,11 +192,31 @@ module _ (n : Name) where
 
   indices_marked : (items : Tree) (m : Marked) (i : ItemTree) → Has items i → (s : FieldSpace) → i.form ≡ space_item s → (p : Param) → Has s.fields p →
       is_index_term p.term ≡ true → p.name ≡ n → IsMarked (marked_by_items items m)
-  indices_marked = items_make IsMarked HoldsIndices (λ p m. both_stay (is_index_term p.term) (is_pointer_term p.term) p.name m) index_made
+  indices_marked = items_make IsMarked HoldsIndices (λ p m. both_stay (is_index_term p.term) (is_pointer_term p.term) p.name m) (λ k m h. h) index_made
 
   pointers_marked : (items : Tree) (m : Marked) (i : ItemTree) → Has items i → (s : FieldSpace) → i.form ≡ space_item s → (p : Param) → Has s.fields p →
       is_pointer_term p.term ≡ true → p.name ≡ n → IsPointerMarked (marked_by_items items m)
-  pointers_marked = items_make IsPointerMarked HoldsPointers (λ p m. pointers_stay (is_index_term p.term) (is_pointer_term p.term) p.name m) pointer_made
+  pointers_marked = items_make IsPointerMarked HoldsPointers (λ p m. pointers_stay (is_index_term p.term) (is_pointer_term p.term) p.name m) (λ k m h. h) pointer_made
+
+  -- ---- and each task that gives an index
+
+  abbrev IsTaskMarked : Marked → Type 0
+  IsTaskMarked m = is_among m.index_tasks n ≡ true
+
+  tasks_stay : (b c : Bool) (k : Name) (m : Marked) → IsTaskMarked m → IsTaskMarked (cond b (with_index_field k m) (cond c (with_pointer_field k m) m))
+  tasks_stay true c k m h = h
+  tasks_stay false true k m h = h
+  tasks_stay false false k m h = h
+
+  pub tasks_marked : (items : Tree) (m : Marked) (i : ItemTree) → Has items i → (t : TaskTree) → i.form ≡ task_item t → is_index_if_said t.result ≡ true →
+      t.name ≡ n → IsTaskMarked (marked_by_items items m)
+  tasks_marked [] m i h t is e same = absurd h
+  tasks_marked (j ∷ items) m i (inr h) t is e same = tasks_marked items (marked_by_item j.form m) i h t is e same
+  tasks_marked (j ∷ items) m i (inl here) t is e same =
+      items_keep IsTaskMarked (λ p. false) (λ p m. tasks_stay (is_index_term p.term) (is_pointer_term p.term) p.name m)
+      (λ k m h. among_left m.index_tasks (k ∷ []) n h) (λ p m no. absurd (no_way_back no)) items (marked_by_item j.form m)
+      (subst (λ form. IsTaskMarked (marked_by_item form m)) (sym (ap (λ (x : ItemTree). x.form) here ∙ is))
+      (subst (λ b. IsTaskMarked (cond b (with_index_task t.name m) m)) (sym e) (among_added m.index_tasks t.name n same)))
 
 -- ---- the term of a field
 

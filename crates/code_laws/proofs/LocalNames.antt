@@ -20,7 +20,7 @@ use Rattle.check_rules.specs.scopes.Sound.{StandsIn}
 use Rattle.check_rules.specs.types.Sorts.{is_integer, is_partition, is_region, may_be}
 use Rattle.check_laws.specs.SoundScopes.{Falls}
 use Rattle.scalar_form.specs.ScalarForm.{is_scalar_if_said}
-use Rattle.local_form.specs.LocalForm.{Marked, is_among, is_kept_apart}
+use Rattle.local_form.specs.LocalForm.{Marked, is_among, is_kept_apart, is_local_result}
 use Rattle.code_laws.specs.Simple.{IsInteger, IsPartition, IsRegion, IsScalar, IsSimple, a_partition_type, simple_index, simple_integer, simple_space, simple_truth, term_in}
 use Rattle.code_rules.specs.Instructions.{place_of_task, tasks_of}
 use Rattle.code_rules.specs.Programs.{task_code}
@@ -48,17 +48,17 @@ pub record IsAlone (tree : Tree) (t : TaskTree) : Type 0 where
   pub params : AreScalars (param_types tree t)
 
 -- a task that is called takes numbers, truths, regions, indices, index spaces and pointers, which go to parameters, and gives
--- numbers and truths
+-- numbers, truths and indices
 pub record IsLocalTask (handing keeping : Bool) (tree : Tree) (n : Name) : Type 0 where
   pub stands : StandsIn tree (task_named tree n)
   pub called : slice_get (tasks_of tree) (place_of_task tree n) ≡ Some (task_named tree n)
   pub params : AreTakable keeping (param_types tree (task_named tree n))
-  pub result : is_scalar_if_said (task_named tree n).result ≡ true
+  pub result : is_local_result (task_named tree n).result ≡ true
   pub goals : AllGoToParams (scope_of tree (task_named tree n)).names
   pub alone : handing ≡ false → IsAlone tree (task_named tree n)
 
 -- Fields are numbers and truths, or indices or pointers and marked so, few, and each has a name of its own; their pointers go
--- to regions as their field spaces declare; and tasks are such. Where indices and pointers are assigned, they are kept.
+-- to regions as their field spaces declare; and tasks are such; one that isn't marked gives no index. Where indices and pointers are assigned, they are kept.
 pub record IsLocalTree (handing keeping : Bool) (m : Marked) (tree : Tree) : Type 0 where
   pub fields : (sp : ℕ) (f : Name) → has_field tree sp f ≡ true → IsFieldTerm keeping (fields_of m) f (field_term tree sp (field_place tree sp f))
   pub declared : HasSpacedDeclarations tree
@@ -66,6 +66,7 @@ pub record IsLocalTree (handing keeping : Bool) (m : Marked) (tree : Tree) : Typ
   pub few : (sp : ℕ) → length (space_at tree sp).fields ≤ 256
   pub named : (sp i : ℕ) → i < length (space_at tree sp).fields → Has (fields_named tree sp None) i
   pub tasks : (n : Name) → has_task tree n ≡ true → IsLocalTask handing keeping tree n
+  pub givers : (n : Name) → has_task tree n ≡ true → is_among m.index_tasks n ≡ false → is_scalar_if_said (task_named tree n).result ≡ true
 
 -- ---- names
 

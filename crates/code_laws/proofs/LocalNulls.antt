@@ -43,8 +43,8 @@ use Rattle.check_rules.specs.types.Sorts.{may_be, same_kind}
 use Rattle.code_rules.specs.Slots.{Where, typed}
 use Rattle.local_form.specs.LocalForm.{Marked, goes_to_name, goes_to_names, is_among, is_kept_term, is_said_term, takes_element}
 use Rattle.code_laws.specs.Handing.{forms_by}
-use Rattle.code_laws.specs.Pointers.{AreThere, BeginsAs, BeginsWith, GoesInto, IsPointer, IsWritten, a_pointer_type, begins_plain, begins_pointer, fills_index, into_index, into_plain, into_space, itself_null, itself_plain, zero_index}
-use Rattle.code_laws.specs.Simple.{IsScalar, number_index, number_integer, scalar_truth, simple_index, simple_integer, simple_space, simple_truth}
+use Rattle.code_laws.specs.Pointers.{AreThere, BeginsAs, BeginsWith, GoesInto, IsPointer, IsWritten, a_pointer_type, begins_plain, begins_pointer, into_space, itself_null, itself_plain, zero_index}
+use Rattle.code_laws.specs.Simple.{IsScalar, scalar_truth, simple_index, simple_integer, simple_space, simple_truth}
 use Rattle.code_laws.specs.Steps.{Forms}
 use Rattle.code_laws.proofs.KnownHeads.{KnowsHead}
 use Rattle.code_laws.proofs.LocalElements.{region_among, region_found, region_of_space, region_typed}
@@ -52,7 +52,7 @@ use Rattle.code_laws.proofs.LocalParams.{names_keep}
 use Rattle.code_laws.proofs.LocalNames.{AllKept, IsKept, IsLocalTree, kept_partition, kept_region, kept_scalar, kept_value, named_kept}
 use Rattle.code_laws.proofs.LocalPoints.{IsWell, local_known, scalar_well}
 use Rattle.code_laws.proofs.LocalTypes.{term_scalar}
-use Rattle.code_laws.proofs.LocalValues.{AreAmong, IsRegionAmong, IsValue, alike_begins, names_among, pointer_fitting, scalar_begins, value_counts, value_fitting, value_pointer, value_simple, names_aims, goals_aims, among_goals}
+use Rattle.code_laws.proofs.LocalValues.{AreAmong, IsRegionAmong, IsValue, alike_begins, index_goes, names_among, pointer_fitting, scalar_begins, value_counts, value_fitting, value_pointer, value_simple, names_aims, goals_aims, among_goals}
 use Rattle.code_laws.proofs.Typing.{no_way, no_way_back, stands_well}
 use Rattle.code_laws.proofs.Values.{scalar_simple}
 use Rattle.code_laws.proofs.Wider.{counting}
@@ -157,15 +157,7 @@ module _ (keeping : Bool) (m : Marked) (keeps : m.keeps ≡ true → keeping ≡
       let known = names_known tree s.names (λ n b. (scope.types n b).known) t named in
       unless_false (is_flawed_type tree s.names t) (type_said tree (in_scope s) s.next t) (λ j. named j || counted j || points j || right j || known j)
 
--- what fits an index or a pointer's variable, and begins it
-index_goes : (b : Bool) (bs : List Bound) (known : List Known) (from : StaticType) (k : Kind) → IsValue b bs from → fits known from (index_type k) ≡ true →
-    GoesInto from (index_type k)
-index_goes b bs known _ k (value_simple _ (simple_integer w)) e = into_plain _ _ (fills_index _ k (number_integer w))
-index_goes b bs known _ k (value_simple _ (simple_index j)) e = into_plain _ _ (fills_index _ k (number_index j))
-index_goes b bs known _ k (value_simple _ simple_truth) e = absurd (no_way_back e)
-index_goes b bs known _ k (value_simple _ (simple_space j)) e = absurd (no_way_back e)
-index_goes b bs known _ k (value_pointer j sp args i h r) e = into_index j sp args _ k
-
+-- what fits an index space's variable, and begins it
 space_goes : (b : Bool) (bs : List Bound) (known : List Known) (from : StaticType) (k : Kind) → IsValue b bs from → fits known from (ispace_type k) ≡ true →
     GoesInto from (ispace_type k)
 space_goes b bs known _ k (value_simple _ (simple_space j)) e = into_space j k

@@ -21,16 +21,15 @@ use Rattle.check_rules.specs.first.FirstInExpressions.{first_in_expression}
 use Rattle.check_rules.specs.first.FirstInStatements.{first_of_form}
 use Rattle.check_rules.specs.scopes.Sound.{IsSound, IsSoundTask}
 use Rattle.code_rules.specs.Slots.{Where}
-use Rattle.local_form.specs.LocalForm.{Marked, begins_part, is_among, is_local_expression, is_part, takes_part}
-use Rattle.scalar_form.specs.ScalarForm.{is_scalar_if_said}
-use Rattle.code_laws.specs.Above.{cut_told, first_told}
+use Rattle.local_form.specs.LocalForm.{Marked, begins_part, is_among, is_local_expression, is_part, takes_part, is_local_result}
+use Rattle.code_laws.specs.Above.{cut_told, first_told, piece_told}
 use Rattle.code_laws.specs.Handing.{forms_by, takes_by, told_in}
 use Rattle.code_laws.specs.Simple.{IsPartition, IsRegion, a_partition_type}
 use Rattle.code_laws.specs.Steps.{Forms}
-use Rattle.code_laws.specs.Taking.{BeginsWithin}
+use Rattle.code_laws.specs.Taking.{BeginsWithin, BeginsAt}
 use Rattle.code_laws.specs.Typed.{IsKeepable, IsTyped}
 use Rattle.code_laws.proofs.Domains.{part_is}
-use Rattle.code_laws.proofs.KnownHeads.{IsPair, IsPiece, IsReady, KnowsFacts, above_by}
+use Rattle.code_laws.proofs.KnownHeads.{IsPair, IsPiece, IsReady, KnowsFacts, above_by, told_here}
 use Rattle.code_laws.proofs.KnownPlaces.{head_piece}
 use Rattle.code_laws.proofs.LocalArguments.{IsArgument, IsPartName, IsRegionName}
 use Rattle.code_laws.proofs.LocalGoals.{bound_among}
@@ -44,6 +43,8 @@ use Rattle.code_laws.proofs.Told.{ToldUpTo}
 use Rattle.code_laws.proofs.TypedStatements.{initial_told}
 use Rattle.code_laws.proofs.Typing.{AreKept, no_way, no_way_back}
 use Rattle.code_laws.proofs.Wider.{begun_apart}
+use Rattle.regent_tree.specs.declared.facts.Colour.{Colour}
+use Rattle.regent_tree.specs.declared.facts.Colour.TheVariants.{Unknown}
 
 abbrev number_in : Term → ℕ
 number_in (place.Name i) = i
@@ -52,6 +53,10 @@ number_in (place.Child p c) = 0
 abbrev cut_in : Term → ℕ
 cut_in (place.Name i) = 0
 cut_in (place.Child p c) = p
+
+abbrev colour_in : Term → Colour
+colour_in (place.Name i) = Unknown
+colour_in (place.Child p c) = c
 
 abbrev IsChild : Term → Type 0
 IsChild (place.Name i) = ⊥
@@ -82,7 +87,7 @@ named_part m (cast_expr _ _) h = absurd (no_way_back h)
 named_part m (space_expr _ _) h = absurd (no_way_back h)
 
 module _ (handing keeping : Bool) (tree : Tree) (task : TaskTree) (sound : IsSound tree) (sound_task : IsSoundTask tree task) (m : Marked)
-    (local : IsLocalTree handing keeping m tree) (params : ℕ) (result : is_scalar_if_said task.result ≡ true) (keeps : (q : Name) → is_among m.partitions q ≡ true → keeping ≡ true) where
+    (local : IsLocalTree handing keeping m tree) (params : ℕ) (result : is_local_result task.result ≡ true) (keeps : (q : Name) → is_among m.partitions q ≡ true → keeping ≡ true) where
   abbrev forms : Forms
   forms = forms_by handing keeping tree task
 
@@ -105,6 +110,19 @@ module _ (handing keeping : Bool) (tree : Tree) (task : TaskTree) (sound : IsSou
   begins false s u p r d facts after up told cut = tt
   begins true s u p r d facts after up told cut = (facts.next, above_by (told_in tree task) after up s.next p r d told cut)
 
+  -- as that part
+  begins_at : (b : Bool) (u : Scope) (i p : ℕ) (c : Colour) → ToldUpTo (told_in tree task) u → first_told (piece_told i) u.known ≡ Some (p, c) →
+      BeginsAt (takes_by b tree task) i p c
+  begins_at false u i p c told piece = tt
+  begins_at true u i p c told piece = told_here (told_in tree task) told (piece_told i) (p, c) piece
+
+  first_piece : (s u : Scope) (p : ℕ) (c : Colour) → IsPair tree task (place.Name s.next) (place.Child p c) ⊎ IsPiece m task u (place.Name s.next) (place.Child p c) →
+      first_told (piece_told s.next) u.known ≡ Some (p, c)
+  first_piece s u p c (inl a) = absurd (subst IsChild a.is_upper tt)
+  first_piece s u p c (inr a) =
+      subst (λ i. first_told (piece_told i) u.known ≡ Some (p, c)) (sym (ap number_in a.is_lower))
+      (subst (λ b. first_told (piece_told a.own) u.known ≡ Some (cut_in b, colour_in b)) (sym a.is_upper) a.piece)
+
   -- the partition is that of the first fact
   first_cut : (s u : Scope) (b : Term) (p : ℕ) → IsChild b → cut_in b ≡ p → IsPair tree task (place.Name s.next) b ⊎ IsPiece m task u (place.Name s.next) b →
       first_told (cut_told s.next) u.known ≡ Some p
@@ -113,11 +131,11 @@ module _ (handing keeping : Bool) (tree : Tree) (task : TaskTree) (sound : IsSou
       subst (λ i. first_told (cut_told i) u.known ≡ Some p) (sym (ap number_in a.is_lower))
       (a.told ∙ ap (λ n. Some n) (sym (ap cut_in a.is_upper) ∙ same))
 
-  part_starts : (s : Scope) (line : ℕ) (n p : Name) (e : Expression) → is_among m.regions n ≡ true → m.parts ≡ true → (scope : IsSoundScope s) (ready : Ready s) →
+  part_starts : (s : Scope) (line : ℕ) (n p : Name) (e : Expression) → is_among m.regions n ≡ true → (scope : IsSoundScope s) (ready : Ready s) →
       ToldUpTo (told_in tree task) (scope_after tree s (var_form n None (Some (plain_initializer (access_expr p (at_step e no_step)))))) →
       (a : IsPartName handing keeping task (here s line) sound sound_task m local scope ready.names ready.head (access_expr p (at_step e no_step))) →
       Starts s line n (access_expr a.name (at_step a.index no_step))
-  part_starts s line n p e region marked scope ready up a =
+  part_starts s line n p e region scope ready up a =
       let w = here s line in
       let q = a.name in
       let y = access_expr q (at_step a.index no_step) in
@@ -126,10 +144,10 @@ module _ (handing keeping : Bool) (tree : Tree) (task : TaskTree) (sound : IsSou
       let kind = part_is w q a.index a.own a.region in
       let t = region_type kind.kind kind.space kind.args (place.Child b.number (colour_of s a.index)) in
       let facts : KnowsFacts m tree task (behind s n t) =
-      head_piece tree task s n (region_type kind.kind kind.space kind.args (place.Name s.next)) b.number (colour_of s a.index) refl marked ready.head.facts in
-      let told = first_cut s (behind s n t) (place.Child b.number (colour_of s a.index)) b.number tt refl
-      (facts.within (place.Name s.next) (place.Child b.number (colour_of s a.index))
-      (Contains-from_Has _ _ (Has-append_right s.known (Within (place.Name s.next) (place.Child b.number (colour_of s a.index)) ∷ []) _ (inl refl)))) in
+      head_piece tree task s n (region_type kind.kind kind.space kind.args (place.Name s.next)) b.number (colour_of s a.index) refl ready.head.facts in
+      let known = facts.within (place.Name s.next) (place.Child b.number (colour_of s a.index))
+      (Contains-from_Has _ _ (Has-append_right s.known (Within (place.Name s.next) (place.Child b.number (colour_of s a.index)) ∷ []) _ (inl refl))) in
+      let told = first_cut s (behind s n t) (place.Child b.number (colour_of s a.index)) b.number tt refl known in
       let cut : Has s.known (PartOf b.number r (is_disjoint b.static_type)) =
       ready.head.facts.cuts b (bound_among s.names q a.cut.named) (PartOf b.number r (is_disjoint b.static_type))
       (subst (λ u. Has (known_of_type u) (PartOf b.number r (is_disjoint b.static_type))) (sym a.own) (inl refl)) in
@@ -138,8 +156,9 @@ module _ (handing keeping : Bool) (tree : Tree) (task : TaskTree) (sound : IsSou
       (subst (λ x. ToldUpTo (told_in tree task) (behind s n (type_of tree s x))) a.is up) in
       let begun = begins handing s (behind s n t) b.number r (is_disjoint b.static_type) ready.head.facts facts up2 told
       (Contains-from_Has _ _ (Has-append_left s.known _ (PartOf b.number r (is_disjoint b.static_type)) cut)) in
+      let at = begins_at handing (behind s n t) s.next b.number (colour_of s a.index) up2 (first_piece s (behind s n t) b.number (colour_of s a.index) known) in
       let parent = region_of_number s.next s.names r scope.numbers a.parent in (
-        begun_apart keeping w y (IsKeepable keeping w y × IsTyped forms w y) _ a.keeps (inr ((a.cut, a.own, a.region, (a.indexed, a.counts)), parent.1, begun)),
+        begun_apart keeping w y (IsKeepable keeping w y × IsTyped forms w y) _ a.keeps (inr ((a.cut, a.own, a.region, (a.indexed, a.counts)), parent.1, begun, at)),
         subst (λ u. IsKept keeping m s.names n s.next (owned s.next u)) (sym kind.is) (kept_region kind.kind kind.space kind.args region),
         subst (λ u. KnowsFacts m tree task (behind s n u)) (sym kind.is) facts,
       )
@@ -158,16 +177,16 @@ module _ (handing keeping : Bool) (tree : Tree) (task : TaskTree) (sound : IsSou
   no_name p n e same = subst IsNoName same tt
 
   -- what stands as a part is one
-  argument_starts : (s : Scope) (line : ℕ) (n p : Name) (e : Expression) → is_among m.regions n ≡ true → m.parts ≡ true → (scope : IsSoundScope s) (ready : Ready s) →
+  argument_starts : (s : Scope) (line : ℕ) (n p : Name) (e : Expression) → is_among m.regions n ≡ true → (scope : IsSoundScope s) (ready : Ready s) →
       is_among m.partitions p ≡ true → is_among m.regions p ≡ false →
       ToldUpTo (told_in tree task) (scope_after tree s (var_form n None (Some (plain_initializer (access_expr p (at_step e no_step)))))) →
       IsArgument handing keeping task (here s line) sound sound_task m local scope ready.names ready.head (access_expr p (at_step e no_step)) →
       Starts s line n (access_expr p (at_step e no_step))
-  argument_starts s line n p e region marked scope ready cut none up (inl a) = absurd (no_region s p ready a.is.3 a.is.4 none)
-  argument_starts s line n p e region marked scope ready cut none up (inr (inl r)) = absurd (no_name p r.name e r.is)
-  argument_starts s line n p e region marked scope ready cut none up (inr (inr (inl a))) =
-      subst (Starts s line n) (sym a.is) (part_starts s line n p e region marked scope ready up a)
-  argument_starts s line n p e region marked scope ready cut none up (inr (inr (inr other))) = by (type_of tree s (access_expr p (at_step e no_step))) refl other.0
+  argument_starts s line n p e region scope ready cut none up (inl a) = absurd (no_region s p ready a.is.3 a.is.4 none)
+  argument_starts s line n p e region scope ready cut none up (inr (inl r)) = absurd (no_name p r.name e r.is)
+  argument_starts s line n p e region scope ready cut none up (inr (inr (inl a))) =
+      subst (Starts s line n) (sym a.is) (part_starts s line n p e region scope ready up a)
+  argument_starts s line n p e region scope ready cut none up (inr (inr (inr other))) = by (type_of tree s (access_expr p (at_step e no_step))) refl other.0
     where
       by : (t : StaticType) → type_of tree s (access_expr p (at_step e no_step)) ≡ t → IsOther t → Starts s line n (access_expr p (at_step e no_step))
       by _ same (other_partition d r q) = let c = other.2 (subst IsPartition (sym same) (a_partition_type d r q)) in absurd (no_name p c.name e c.is)
@@ -179,9 +198,8 @@ module _ (handing keeping : Bool) (tree : Tree) (task : TaskTree) (sound : IsSou
       ToldUpTo (told_in tree task) (scope_after tree s (var_form n None (Some (plain_initializer y)))) →
       first_of_form tree task s (var_form n None (Some (plain_initializer y))) ≡ None → Starts s line n y
   piece_local s line n y lo k scope ready up none =
-      let one = and_parts (takes_part m y) (is_part m y && (is_among m.regions n && m.parts)) lo in
-      let two = and_parts (is_part m y) (is_among m.regions n && m.parts) one.1 in
-      let three = and_parts (is_among m.regions n) m.parts two.1 in
+      let one = and_parts (takes_part m y) (is_part m y && is_among m.regions n) lo in
+      let two = and_parts (is_part m y) (is_among m.regions n) one.1 in
       let is = named_part m y one.0 in
       let told : first_in_expression tree task s y ≡ None =
       subst (λ y. first_of_form tree task s (var_form n None (Some (plain_initializer y))) ≡ None → first_in_expression tree task s y ≡ None) (sym is.2)
@@ -189,5 +207,5 @@ module _ (handing keeping : Bool) (tree : Tree) (task : TaskTree) (sound : IsSou
       (told_of_form tree task s sound scope (var_form n None (Some (plain_initializer (access_expr is.0 (at_step is.1 no_step))))) e).2) none in
       subst (λ x. IsArgument handing keeping task (here s line) sound sound_task m local scope ready.names ready.head x →
       ToldUpTo (told_in tree task) (scope_after tree s (var_form n None (Some (plain_initializer x)))) → Starts s line n x) (sym is.2)
-      (λ a up. argument_starts s line n is.0 is.1 three.0 three.1 scope ready is.3 is.4 up a)
+      (λ a up. argument_starts s line n is.0 is.1 two.1 scope ready is.3 is.4 up a)
       (parted handing keeping tree task sound sound_task m local params result s line y two.0 k scope ready told) up

@@ -24,28 +24,33 @@ use Rattle.code_laws.proofs.LocalFields.{fields_of}
 use Rattle.code_laws.proofs.LocalSpaced.{params_placed}
 use Rattle.code_laws.specs.Handing.{AreTypedBy, forms_by, told_in}
 use Rattle.code_laws.proofs.Told.{all_told, block_grows, told_before}
-use Rattle.local_form.specs.LocalForm.{Marked, are_local_params, are_scalar_params, is_among, is_local_block, is_local_with, marked_by_task}
+use Rattle.local_form.specs.LocalForm.{Marked, are_local_params, are_scalar_params, is_among, is_local_block, is_local_result, is_local_with, marked_by_task}
 use Rattle.code_laws.specs.Simple.{IsInteger, an_integer}
 use Rattle.code_laws.specs.LocalPrograms.{AcceptedProgramsEndWell, AcceptedProgramsRunAsMeant, IsKeptProgramRun, IsLocalProgramRun, IsPlainProgramRun, has_no_pointer, keeps_nothing, takes_scalars, without_keeping}
-use Rattle.code_laws.specs.Programs.{AreTypedTasks, IsGiven, IsTypedRun, call_forms, gives_nothing, gives_scalar}
+use Rattle.code_laws.specs.Programs.{AreTypedTasks, IsGiven, IsTypedRun, call_forms, gives_index, gives_nothing, gives_scalar}
+use Rattle.code_laws.specs.Pointers.{HasZero, zero_index, zero_scalar}
 use Rattle.code_laws.proofs.LocalBlocks.{block_local}
 use Rattle.code_laws.proofs.DeclaredNeeds.{needs_none}
 use Rattle.code_laws.proofs.KnownHeads.{IsReady, head_begins}
 use Rattle.code_laws.proofs.LocalParams.{params_among}
 use Rattle.code_laws.proofs.LocalTells.{params_tell}
 use Rattle.code_laws.proofs.LocalTrees.{IsHead, IsOfForm, TakesScalars, begins_kept, local_tree, item_of_form, item_stands, task_stands}
-use Rattle.code_laws.proofs.LocalTypes.{term_scalar}
+use Rattle.code_laws.proofs.LocalParts.{given_result}
 use Rattle.code_laws.proofs.Openings.{params_length, types_length}
 use Rattle.check_laws.proofs.Entries.{begins}
 use Rattle.code_laws.proofs.Entries.{AllIntegers, all_of, found, inputs_count, inputs_taken, kept_all, kept_item, params_integers, short_body, types_integers}
 use Rattle.code_laws.proofs.Top.{handing_programs_end_well, regions_are_handed_as_meant}
 use Rattle.code_laws.proofs.Typing.{AreKept, kept_right, no_way, no_way_back}
-use Rattle.scalar_form.specs.ScalarForm.{is_empty, is_scalar_if_said}
+use Rattle.scalar_form.specs.ScalarForm.{is_empty}
 
--- a result of numbers or truths, or none
-given_scalar : (tree : Tree) (r : Option TypeTerm) → is_scalar_if_said r ≡ true → IsGiven (result_type tree r)
-given_scalar tree None e = gives_nothing
-given_scalar tree (Some t) e = gives_scalar _ (term_scalar t e tree (λ n. None) 0)
+-- a result of numbers, truths or indices, or none
+given_local : (tree : Tree) (r : Option TypeTerm) → is_local_result r ≡ true → IsGiven (result_type tree r)
+given_local tree None e = gives_nothing
+given_local tree (Some t) e = by (given_result tree (Some t) e refl)
+  where
+    by : {u : StaticType} → HasZero u → IsGiven u
+    by (zero_scalar u s) = gives_scalar u s
+    by (zero_index k) = gives_index k
 
 -- none of these types is a region's
 integer_no_region : (t : StaticType) → IsInteger t → is_region t ≡ false
@@ -92,7 +97,7 @@ marks_of false tree t is none =
       assigns = λ q. absurd (no_way_back q);
       keeps = λ n. ⊎_elim (λ h. absurd (none_among m.pointers names.0 n h)) (λ h. absurd (none_among m.partitions names.1 n h));
       params = with_these.0;
-      body = (and_parts (is_scalar_if_said t.result) (is_local_block (without_keeping m) t.body) with_these.1).1;
+      body = (and_parts (is_local_result t.result) (is_local_block (without_keeping m) t.body) with_these.1).1;
     }
 
 -- a program of which nothing is told, whose tasks hand regions over or not, and where they do, keep pointers or not
@@ -135,7 +140,7 @@ module _ (handing keeping : Bool) (tree : Tree) (inputs : List ℤ) (p : IsLocal
               (all_told (scope_after_block tree (scope_of tree t) t.body));
         };
       } in record {
-        given = given_scalar tree t.result is.result;
+        given = given_local tree t.result is.result;
         typed = (block_local handing keeping tree t told.sound told.sound_task k.marks local k.keeps hands (length t.params) is.result (scope_of tree t) 0 t.body k.body body
             told.scope ready (all_told (scope_after_block tree (scope_of tree t) t.body)) told.told).0;
         small = omega (arith, short);

@@ -40,13 +40,13 @@ use Rattle.check_rules.specs.types.Fitting.{agree_all, fits}
 use Rattle.check_rules.specs.types.Sorts.{same_kind}
 use Rattle.check_rules.specs.types.KnownTypes.{known_type}
 use Rattle.code_rules.specs.Slots.{Where}
-use Rattle.local_form.specs.LocalForm.{Marked, is_among, is_local_expression}
+use Rattle.local_form.specs.LocalForm.{Marked, is_among, is_local_expression, is_local_result}
 use Rattle.code_laws.specs.Handing.{forms_by, takes_by, told_in}
 use Rattle.code_laws.specs.Pointers.{IsLike, like_partition, like_region}
 use Rattle.code_laws.specs.Steps.{Forms}
 use Rattle.code_laws.specs.Taking.{BeginsWhole}
 use Rattle.code_laws.specs.Typed.{IsBegunBy, IsTypedForm}
-use Rattle.code_laws.proofs.KnownHeads.{IsReady, KnowsFacts, made_above_none}
+use Rattle.code_laws.proofs.KnownHeads.{IsReady, KnowsFacts, made_above_none, made_piece_none}
 use Rattle.code_laws.proofs.Told.{ToldUpTo}
 use Rattle.regent_tree.proofs.Members.{Contains-from_Has, Has-append_right}
 use Rattle.code_laws.proofs.KnownPlaces.{head_cut, head_made}
@@ -56,7 +56,6 @@ use Rattle.code_laws.proofs.LocalValues.{IsRegionAmong, value_space}
 use Rattle.code_laws.proofs.LocalVariables.{VarTyped, at, headed, stands_as}
 use Rattle.code_laws.proofs.TypedStatements.{first_stands}
 use Rattle.code_laws.proofs.Typing.{AreKept, no_way_back}
-use Rattle.scalar_form.specs.ScalarForm.{is_scalar_if_said}
 
 -- how a variable begins, by its written type
 abbrev IsStarted : Forms → Where → Option TypeTerm → Initializer → Type 0
@@ -76,7 +75,7 @@ as_asked c true e q = refl
 as_asked c false e q = absurd (no_way_back (ap not (sym q) ∙ e))
 
 module _ (handing keeping : Bool) (tree : Tree) (task : TaskTree) (sound : IsSound tree) (sound_task : IsSoundTask tree task) (m : Marked)
-    (local : IsLocalTree handing keeping m tree) (params : ℕ) (result : is_scalar_if_said task.result ≡ true) where
+    (local : IsLocalTree handing keeping m tree) (params : ℕ) (result : is_local_result task.result ≡ true) where
   abbrev forms : Forms
   forms = forms_by handing keeping tree task
 
@@ -93,7 +92,7 @@ module _ (handing keeping : Bool) (tree : Tree) (task : TaskTree) (sound : IsSou
   abbrev FitsSaid : Scope → Option TypeTerm → Initializer → Type 0
   FitsSaid s t i = list_any (is_ill_typed_at_place s.known) (stands_declared (known_initializer tree s i) t (variable_type tree s t (Some i))) ≡ false
 
-  said_fits : (s : Scope) (n : Name) (t : TypeTerm) (i : Initializer) → IsSoundScope s → Ready s →
+  pub said_fits : (s : Scope) (n : Name) (t : TypeTerm) (i : Initializer) → IsSoundScope s → Ready s →
       first_of_form tree task s (var_form n (Some t) (Some i)) ≡ None → FitsSaid s (Some t) i →
       fits s.known (initializer_type tree s s.next i) (type_said tree (in_scope s) s.next t) ≡ true
   said_fits s n t i scope names e tail =
@@ -134,6 +133,20 @@ module _ (handing keeping : Bool) (tree : Tree) (task : TaskTree) (sound : IsSou
       (subst (λ u. KnowsFacts m tree task (knowing (with_name s n u false) (known_of_type u))) (sym is)
       (head_cut tree task s n d r scope.numbers names.head.facts))
 
+  -- one of a written type that begins with a partition of a region, and whose type is like that
+  pub cut_written : (s : Scope) (line : ℕ) (n : Name) (t : TypeTerm) (i : Initializer) (d : Bool) (r : ℕ) → keeping ≡ true → is_among m.partitions n ≡ true →
+      IsSoundScope s → Ready s → first_of_form tree task s (var_form n (Some t) (Some i)) ≡ None → initializer_type tree s s.next i ≡ partition_type d r s.next →
+      known_of_initializer tree s s.next (Some i) ≡ [] → IsRegionAmong s.names r → FitsSaid s (Some t) i →
+      (IsLike (type_said tree (in_scope s) s.next t) (initializer_type tree s s.next i) → IsTypedForm forms (here s line) (var_form n (Some t) (Some i))) →
+      Typed s line n (Some t) i
+  cut_written s line n t i d r keeps marked scope names e is none among tail by =
+      let said = cut_said s d r t (subst (λ u. fits s.known u (type_said tree (in_scope s) s.next t) ≡ true) is (said_fits s n t i scope names e tail)) in (
+        by (subst (λ u. IsLike u (initializer_type tree s s.next i)) (sym said.is)
+            (subst (IsLike (partition_type said.flag r s.next)) (sym is) (like_partition said.flag d r s.next said.disjoint))),
+        subst (IsKept keeping m s.names n s.next) (sym said.is) (kept_partition said.flag r keeps among marked),
+        cut_facts s n (type_said tree (in_scope s) s.next t) (known_of_initializer tree s s.next (Some i)) said.flag r said.is none scope names,
+      )
+
   -- a variable that begins with a partition of a region
   pub cut_typed : (s : Scope) (line : ℕ) (n : Name) (t : Option TypeTerm) (i : Initializer) (d : Bool) (r : ℕ) → keeping ≡ true → is_among m.partitions n ≡ true →
       IsSoundScope s → Ready s → first_of_form tree task s (var_form n t (Some i)) ≡ None → initializer_type tree s s.next i ≡ partition_type d r s.next →
@@ -144,16 +157,7 @@ module _ (handing keeping : Bool) (tree : Tree) (task : TaskTree) (sound : IsSou
     cut_facts s n (initializer_type tree s s.next i) (known_of_initializer tree s s.next (Some i)) d r is none scope names,
   )
   cut_typed s line n (Some t) i d r keeps marked scope names e is none among tail by =
-      let said = cut_said s d r t (subst (λ u. fits s.known u (type_said tree (in_scope s) s.next t) ≡ true) is (said_fits s n t i scope names e tail)) in (
-        started forms (here s line) n (Some t) i (
-          keeps,
-          subst (λ u. IsLike u (initializer_type tree s s.next i)) (sym said.is)
-              (subst (IsLike (partition_type said.flag r s.next)) (sym is) (like_partition said.flag d r s.next said.disjoint)),
-          by,
-        ),
-        subst (IsKept keeping m s.names n s.next) (sym said.is) (kept_partition said.flag r keeps among marked),
-        cut_facts s n (type_said tree (in_scope s) s.next t) (known_of_initializer tree s s.next (Some i)) said.flag r said.is none scope names,
-      )
+      cut_written s line n t i d r keeps marked scope names e is none among tail (λ like. started forms (here s line) n (Some t) i (keeps, like, by))
 
   -- ---- regions
 
@@ -184,7 +188,7 @@ module _ (handing keeping : Bool) (tree : Tree) (task : TaskTree) (sound : IsSou
   -- what is made is named behind the parameters, and began as no part
   fresh : (b : Bool) (own : ℕ) (u : Scope) → KnowsFacts m tree task u → ToldUpTo (told_in tree task) u → Contains u.known (Made own) → BeginsWhole (takes_by b tree task) own
   fresh false own u facts up made = tt
-  fresh true own u facts up made = ((facts.made own made).high, made_above_none (told_in tree task) facts up own made)
+  fresh true own u facts up made = ((facts.made own made).high, made_above_none (told_in tree task) facts up own made, made_piece_none (told_in tree task) facts up own made)
 
   region_begun : (s : Scope) (line : ℕ) (n : Name) (t : Option TypeTerm) (y : Expression) (u : SpaceUse) → is_local_expression m y ≡ true →
       AreKept (parts_of_expression y) → IsSoundScope s → Ready s → first_of_form tree task s (var_form n t (Some (region_initializer y u))) ≡ None →

@@ -33,7 +33,7 @@ use Rattle.check_rules.specs.types.Lookup.{names_a, region_has}
 use Rattle.check_rules.specs.types.Sorts.{is_region, may_be}
 use Rattle.check_rules.specs.types.TypedForms.{calling}
 use Rattle.code_rules.specs.Slots.{Where}
-use Rattle.local_form.specs.LocalForm.{Marked, are_local_arguments, are_local_expressions, is_local_expression, is_local_form}
+use Rattle.local_form.specs.LocalForm.{Marked, are_local_arguments, are_local_expressions, is_local_expression, is_local_form, is_local_result}
 use Rattle.code_laws.specs.Handing.{forms_by}
 use Rattle.code_laws.specs.Simple.{IsInteger, IsRegion, IsTruth, term_in}
 use Rattle.code_laws.specs.Steps.{Forms}
@@ -47,12 +47,11 @@ use Rattle.code_laws.proofs.LocalNames.{IsKept, IsLocalTree, named_kept}
 use Rattle.code_laws.proofs.LocalPlaces.{field_is, region_is, spaced_name}
 use Rattle.code_laws.proofs.TypedStatements.{count_types, counted, first_stands, listed_told, result_fits, told_later, told_names, told_privileges}
 use Rattle.code_laws.proofs.Typing.{AreKept}
-use Rattle.scalar_form.specs.ScalarForm.{is_scalar_if_said}
 use Rattle.code_laws.proofs.LocalValues.{IsValue, value_integer, value_truth}
 use Rattle.code_laws.proofs.LocalVariables.{at, headed, stands_as}
 
 module _ (handing keeping : Bool) (tree : Tree) (task : TaskTree) (sound : IsSound tree) (sound_task : IsSoundTask tree task) (m : Marked)
-    (local : IsLocalTree handing keeping m tree) (params : ℕ) (result : is_scalar_if_said task.result ≡ true) where
+    (local : IsLocalTree handing keeping m tree) (params : ℕ) (result : is_local_result task.result ≡ true) where
   abbrev forms : Forms
   forms = forms_by handing keeping tree task
 

@@ -36,7 +36,7 @@ use Rattle.check_rules.specs.types.Sorts.{is_integer, may_be}
 use Rattle.check_rules.specs.types.TypedForms.{element_of, field_of}
 use Rattle.check_rules.specs.declared.rule.Rule.TheVariants as rule
 use Rattle.code_rules.specs.Slots.{Where, typed}
-use Rattle.local_form.specs.LocalForm.{Marked, are_fields, is_among, is_local_expression, is_local_form, is_pointing}
+use Rattle.local_form.specs.LocalForm.{Marked, are_fields, is_among, is_local_expression, is_local_form, is_pointing, is_local_result}
 use Rattle.code_laws.specs.Handing.{forms_by}
 use Rattle.code_laws.specs.Pointers.{AreNames, AreThere}
 use Rattle.code_laws.specs.Steps.{Forms}
@@ -56,7 +56,6 @@ use Rattle.code_laws.proofs.Privileges.{mode_in}
 use Rattle.code_laws.proofs.TypedStatements.{first_stands, told_later, told_privileges}
 use Rattle.code_laws.proofs.Typing.{AreKept, kept_behind, kept_left, kept_right, no_way_back}
 use Rattle.code_laws.proofs.Wider.{assigned}
-use Rattle.scalar_form.specs.ScalarForm.{is_scalar_if_said}
 
 -- ---- the fields before the last one
 
@@ -125,7 +124,7 @@ module _ (tree : Tree) (task : TaskTree) (s : Scope) where
   last_wanted a (at_step e rest) t g lo = absurd (no_way_back lo)
 
 module _ (handing keeping : Bool) (tree : Tree) (task : TaskTree) (sound : IsSound tree) (sound_task : IsSoundTask tree task) (m : Marked)
-    (local : IsLocalTree handing keeping m tree) (params : ℕ) (result : is_scalar_if_said task.result ≡ true) where
+    (local : IsLocalTree handing keeping m tree) (params : ℕ) (result : is_local_result task.result ≡ true) where
   abbrev forms : Forms
   forms = forms_by handing keeping tree task
 

@@ -28,18 +28,19 @@ use Rattle.check_rules.specs.first.FirstInItems.{first_declared, first_line}
 use Rattle.check_rules.specs.rules.Repeats.{Given, given_by, repeats, repeats_after, repeats_within, was_given}
 use Rattle.check_rules.specs.scopes.Sound.{StandsIn}
 use Rattle.code_rules.specs.Instructions.{tasks_of}
-use Rattle.local_form.specs.LocalForm.{Marked, are_local_params, are_scalar_params, is_among, is_local_param, is_local_block, is_local_item, is_local_program, is_local_task, gives_pointer, gives_scalar, is_difference, gives_points, marked_by, marked_by_arms, marked_by_else, marked_by_items, marked_by_task, marked_by_term, marked_in, marked_params, takes_part, unmarked, with_either, with_part, with_partition}
+use Rattle.local_form.specs.LocalForm.{Marked, are_local_params, are_scalar_params, is_among, is_local_param, is_local_block, is_local_item, is_local_program, is_local_task, gives_pointer, gives_scalar, is_difference, gives_points, marked_by, marked_by_arms, marked_by_else, marked_by_items, marked_by_task, marked_by_term, marked_in, marked_params, takes_part, unmarked, with_either, with_partition, with_region, is_index_if_said, is_local_result}
 use Rattle.state_laws.proofs.Texts.{declarations_are}
-use Rattle.code_laws.proofs.LocalFields.{fields_of}
+use Rattle.code_laws.proofs.LocalFields.{FieldMarks, fields_of}
 use Rattle.code_laws.specs.Simple.{IsScalar}
-use Rattle.code_laws.proofs.LocalMarks.{HasFieldTerms, among_left, space_terms}
+use Rattle.code_laws.proofs.LocalMarks.{HasFieldTerms, among_left, space_terms, task_fields, tasks_marked}
 use Rattle.code_laws.proofs.LocalNames.{AllKept, AreScalars, AreTakable, IsAlone, IsLocalTree}
 use Rattle.code_laws.proofs.LocalParams.{AreAmongParams, all_kept, marked_region, pointers_among, term_takable}
 use Rattle.code_laws.proofs.LocalTypes.{IsTakable, term_scalar}
 use Rattle.code_laws.proofs.Openings.{types_cons, types_in}
 use Rattle.code_laws.proofs.Entries.{all_of, found, kept_all, kept_item, no_clauses}
-use Rattle.code_laws.proofs.Typing.{AllScalar, AreKept, no_way_back}
-use Rattle.scalar_form.specs.ScalarForm.{is_empty, is_scalar_if_said, is_scalar_term}
+use Rattle.code_laws.proofs.Typing.{AllScalar, AreKept, no_way, no_way_back}
+use Rattle.code_laws.proofs.LocalParts.{no_index_given}
+use Rattle.scalar_form.specs.ScalarForm.{is_empty, is_scalar_term}
 
 -- ---- field spaces
 
@@ -89,7 +90,7 @@ item_stands tree i h t same = Contains-from_Has (map (λ (i : ItemTree). i.form)
 -- the parts of a task of the form
 pub record IsOfForm (tree : Tree) (t : TaskTree) : Type 0 where
   pub params : are_local_params (marked_by_task tree t) t.params ≡ true
-  pub result : is_scalar_if_said t.result ≡ true
+  pub result : is_local_result t.result ≡ true
   pub body : is_local_block (marked_by_task tree t) t.body ≡ true
 
 -- so of a program that keeps pointers, or doesn't
@@ -101,7 +102,7 @@ pub record IsHead (keeping : Bool) (t : TaskTree) : Type 0 where
 task_of_form : (tree : Tree) (t : TaskTree) → is_local_task tree t ≡ true → IsOfForm tree t
 task_of_form tree t e =
     let one = and_parts (are_local_params (marked_by_task tree t) t.params) _ e in
-    let two = and_parts (is_scalar_if_said t.result) (is_local_block (marked_by_task tree t) t.body) one.1 in
+    let two = and_parts (is_local_result t.result) (is_local_block (marked_by_task tree t) t.body) one.1 in
     record { params = one.0; result = two.0; body = two.1 }
 
 pub item_of_form : (tree : Tree) → is_local_program tree ≡ true → (i : ItemTree) → Has tree i → (t : TaskTree) → i.form ≡ task_item t → IsOfForm tree t
@@ -124,11 +125,11 @@ module _ (n : Name) where
       chosen true = h
       chosen false = subst (λ rs. is_among rs n ≡ true) (sym (either_regions (gives_pointer m e) k m)) h
 
-      parted : (b : Bool) → Region (cond b (with_part k m) (cond (gives_scalar m e) m (with_either (gives_pointer m e) k m)))
+      parted : (b : Bool) → Region (cond b (with_region k m) (cond (gives_scalar m e) m (with_either (gives_pointer m e) k m)))
       parted true = among_left m.regions (k ∷ []) n h
       parted false = chosen (gives_scalar m e)
 
-      apart : (b : Bool) → Region (cond b (with_partition k m) (cond (takes_part m e) (with_part k m) (cond (gives_scalar m e) m (with_either (gives_pointer m e) k m))))
+      apart : (b : Bool) → Region (cond b (with_partition k m) (cond (takes_part m e) (with_region k m) (cond (gives_scalar m e) m (with_either (gives_pointer m e) k m))))
       apart true = h
       apart false = parted (takes_part m e)
 
@@ -301,8 +302,20 @@ local_tree handing keeping tree task m fields keeps within none e alone plain he
         goals = let own = task_named tree n in pointers_among tree own none within (item_stands tree f.stands.0 f.stands.1 own f.stands.2);
         alone = λ q. task_alone tree (task_named tree n) (alone q f.stands.0 f.stands.1 (task_named tree n) f.stands.2);
       };
+  givers = λ n there apart.
+      let f = found n tree there in
+      let t = task_named tree n in
+      no_index_given t.result (item_of_form tree e f.stands.0 f.stands.1 t f.stands.2).result (by n (is_index_if_said t.result) (is_index_if_said t.result) refl
+      (λ is. subst (λ ns. is_among ns n ≡ true) (sym (marks_are (fields ∙ task_fields tree task))) (tasks_marked n tree unmarked f.stands.0 f.stands.1 t f.stands.2 is f.name)) apart);
 }
   where
+    marks_are : fields_of m ≡ fields_of (marked_by_items tree unmarked) → m.index_tasks ≡ (marked_by_items tree unmarked).index_tasks
+    marks_are same = ap (λ (ns : FieldMarks). ns.2) same
+
+    by : (n : Name) (b c : Bool) → b ≡ c → (c ≡ true → is_among m.index_tasks n ≡ true) → is_among m.index_tasks n ≡ false → b ≡ false
+    by n b true same marked apart = absurd (no_way (sym (marked refl) ∙ apart))
+    by n b false same marked apart = same
+
     few_in : (i : ItemTree) → Has tree i → (s : FieldSpace) → i.form ≡ space_item s → length s.fields ≤ 256
     few_in i h s same =
         let every = kept_all (parts_of_program tree) within.each in

@@ -25,7 +25,7 @@ use Rattle.check_rules.specs.types.KnownTypes.{known_type_after_operator}
 use Rattle.check_rules.specs.types.Sorts.{is_collection, is_integer, is_number, is_partition, is_region, is_space, is_truth, is_unknown_type, may_be}
 use Rattle.check_rules.specs.types.TypedForms.{computing}
 use Rattle.code_rules.specs.Slots.{Where, typed}
-use Rattle.code_laws.specs.Pointers.{Assigned, BeginsAs, BeginsWith, ConvertsTo, CountsAs, FillsInto, IsAssigned, IsCompared, IsPointer, IsRead, Passes, PassesInto, SignedAs, passes_plain, assigned_plain, assigned_pointer, begins_plain, compared_different, compared_equal, compared_left, compared_plain, compared_right, a_pointer_type, counts_number, counts_pointer, filled_plain, fills_alike, fills_index, into_index, into_plain, itself_plain, signs_plain, term_integer, zero_scalar}
+use Rattle.code_laws.specs.Pointers.{Assigned, BeginsAs, BeginsWith, ConvertsTo, CountsAs, FillsInto, GoesInto, IsAssigned, IsCompared, IsPointer, IsRead, Passes, PassesInto, SignedAs, passes_plain, assigned_plain, assigned_pointer, begins_plain, compared_different, compared_equal, compared_left, compared_plain, compared_right, a_pointer_type, counts_number, counts_pointer, filled_plain, fills_alike, fills_index, into_index, into_plain, itself_plain, signs_plain, term_integer, zero_scalar}
 use Rattle.code_laws.specs.Simple.{AreAlike, AreComparable, IsInteger, IsIntegerTerm, IsNumber, IsRegion, IsScalar, IsSimple, IsSpace, IsTruth, SignsFit, a_region_type, number_index, number_integer, scalar_integer, scalar_truth, simple_index, simple_integer, simple_space, simple_truth, IsPartition, a_partition_type}
 use Rattle.code_laws.specs.Typed.{IsKeepable, LoopsOver, IsLooped, LoopsOverPart}
 use Rattle.code_laws.proofs.LocalTypes.{either, number_is, operated_simple, owned_simple, param_fitting, simple_as_domain, simple_as_integer, simple_as_number, simple_as_space, simple_as_truth, simple_compared, simple_computed, simple_fitting, simple_for_region, simple_is_no_region, simple_known, simple_no_partition}
@@ -242,6 +242,15 @@ alike_begins true bs t u p = begins_plain t u (into_plain t u (fills_alike t u p
 pub alike_assigned : (b : Bool) (t u : StaticType) → AreAlike t u → IsAssigned b t u
 alike_assigned false t u p = p
 alike_assigned true t u p = assigned_plain t u (into_plain t u (fills_alike t u p))
+
+-- what fits an index goes into it
+pub index_goes : (b : Bool) (bs : List Bound) (known : List Known) (from : StaticType) (k : Kind) → IsValue b bs from → fits known from (index_type k) ≡ true →
+    GoesInto from (index_type k)
+index_goes b bs known _ k (value_simple _ (simple_integer w)) e = into_plain _ _ (fills_index _ k (number_integer w))
+index_goes b bs known _ k (value_simple _ (simple_index j)) e = into_plain _ _ (fills_index _ k (number_index j))
+index_goes b bs known _ k (value_simple _ simple_truth) e = absurd (no_way_back e)
+index_goes b bs known _ k (value_simple _ (simple_space j)) e = absurd (no_way_back e)
+index_goes b bs known _ k (value_pointer j sp args i h r) e = into_index j sp args _ k
 
 -- what fits a variable that is no index space may be assigned to it, where pointers are kept
 kept_assigned : (bs : List Bound) (known : List Known) (t u : StaticType) → IsValue true bs t → IsValue true bs u → is_collection u ≡ false →

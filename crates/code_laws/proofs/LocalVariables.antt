@@ -24,7 +24,7 @@ use Rattle.check_rules.specs.scopes.Variables.{declared_type, is_flawed_initiali
 use Rattle.check_rules.specs.types.Fitting.{fits}
 use Rattle.check_rules.specs.types.KnownTypes.{known_type}
 use Rattle.code_rules.specs.Slots.{Where, typed}
-use Rattle.local_form.specs.LocalForm.{Marked, are_local_links, gives_scalar, is_among, is_kept_apart, is_local_expression, is_local_form, gives_pointer, is_pointing, keeps_pointer, is_part, is_said_term}
+use Rattle.local_form.specs.LocalForm.{Marked, are_local_links, gives_scalar, is_among, is_kept_apart, is_local_expression, is_local_form, gives_pointer, is_pointing, keeps_pointer, is_part, is_said_term, is_local_result}
 use Rattle.code_laws.specs.Handing.{forms_by, told_in}
 use Rattle.code_laws.specs.Simple.{IsSimple}
 use Rattle.code_laws.specs.Steps.{Forms}
@@ -34,7 +34,7 @@ use Rattle.regent_tree.proofs.Members.{Contains-from_Has, Has-append_right}
 use Rattle.regent_tree.specs.declared.facts.Known.TheVariants.{Made}
 use Rattle.std.specs.List.{Contains}
 use Rattle.code_laws.specs.Typed.{IsTyped, IsTypedForm, IsKeepable}
-use Rattle.code_laws.proofs.Wider.{begun_so}
+use Rattle.code_laws.proofs.Wider.{begun_so, said_plainly}
 use Rattle.code_laws.proofs.KnownHeads.{IsReady, KnowsFacts, made_above_none}
 use Rattle.code_laws.proofs.KnownPlaces.{head_made, head_named}
 use Rattle.code_laws.proofs.LocalPoints.{IsWell}
@@ -42,7 +42,6 @@ use Rattle.code_laws.proofs.LocalExpressions.{local_well, local_part}
 use Rattle.code_laws.proofs.LocalNames.{IsKept, IsLocalTree, kept_scalar, named_kept, no_kept_partition, kept_value}
 use Rattle.code_laws.proofs.TypedStatements.{HasNoPartition, first_stands, initial_told}
 use Rattle.code_laws.proofs.Typing.{AreKept, kept_right, no_way, no_way_back}
-use Rattle.scalar_form.specs.ScalarForm.{is_scalar_if_said}
 use Rattle.code_laws.proofs.LocalValues.{IsValue, among_there, owned_value, simple_keepable, simple_no_pointer, value_pointer, value_simple, value_tells, goals_aims, goals_among}
 use Rattle.code_laws.specs.Pointers.{AreThere, IsPointer, a_pointer_type, AreNames}
 use Rattle.code_laws.proofs.LocalElements.{points_by_form}
@@ -64,7 +63,7 @@ value_keepable forms true w e _ same falls fine h (value_pointer k sp args i q r
     )
 
 module _ (handing keeping : Bool) (tree : Tree) (task : TaskTree) (sound : IsSound tree) (sound_task : IsSoundTask tree task) (m : Marked)
-    (local : IsLocalTree handing keeping m tree) (params : ℕ) (result : is_scalar_if_said task.result ≡ true) where
+    (local : IsLocalTree handing keeping m tree) (params : ℕ) (result : is_local_result task.result ≡ true) where
   abbrev pub forms : Forms
   forms = forms_by handing keeping tree task
 
@@ -165,7 +164,7 @@ module _ (handing keeping : Bool) (tree : Tree) (task : TaskTree) (sound : IsSou
       let told = initial_told tree task s y (no_partitions s names y lo) (told_of_form tree task s sound scope (var_form n None (Some (plain_initializer y))) e).2 in
       well_local s line n y marked own scope names (headed s line y lo k scope names told)
 
-  pub said_local : (s : Scope) (line : ℕ) (n : Name) (t : TypeTerm) (y : Expression) → is_local_form m (var_form n (Some t) (Some (plain_initializer y))) ≡ true →
+  pub said_local : (s : Scope) (line : ℕ) (n : Name) (t : TypeTerm) (y : Expression) → (is_said_term m n t && is_local_expression m y) ≡ true →
       AreKept (parts_of_form (var_form n (Some t) (Some (plain_initializer y)))) → IsSoundScope s → Ready s →
       first_of_form tree task s (var_form n (Some t) (Some (plain_initializer y))) ≡ None → VarTyped s line n (Some t) (Some (plain_initializer y))
   said_local s line n t y lo k scope names e =
@@ -183,7 +182,7 @@ module _ (handing keeping : Bool) (tree : Tree) (task : TaskTree) (sound : IsSou
       let is = variable_said keeping m local.keeps tree s scope names.names n t both.0 none in
       let fits_wanted = subst (λ u. fits s.known from u ≡ true) (type_flawless keeping m local.keeps tree s scope names.names t none)
       (ap (λ u. fits s.known u (declared_type tree s t)) (sym begun) ∙ fit) in (
-        (is.begins from a.value fits_wanted, a.is),
+        said_plainly keeping (at s line) y _ _ (is.begins from a.value fits_wanted, a.is),
         is.kept,
         head_named tree task s n wanted (known_of_child s.next from ++ known_of_type wanted) (value_tells keeping s.names s.next wanted is.value).2 names.head.facts
             (ap (λ ks. ks ++ known_of_type wanted) (value_tells keeping s.names s.next from a.value).0 ∙ (value_tells keeping s.names s.next wanted is.value).2),

@@ -47,6 +47,8 @@ use Rattle.code_laws.proofs.Values.{named}
 use Rattle.code_laws.proofs.Wider.{into_simple}
 use Rattle.code_laws.proofs.Writes.{ConvertedAt, converted_at}
 use Rattle.code_laws.proofs.Besides.{goes_alike}
+use Rattle.code_laws.proofs.Pieced.{pointer_uncut}
+use Rattle.code_laws.specs.Taking.{MayChange}
 
 -- ---- positions
 
@@ -170,10 +172,10 @@ pointer_alike _ _ tg (a_pointer_type k sp args rs n) (of_pointer _ _ _ _ tg0 us 
 
 module _ (x : Setting) (params slots : ℕ) (fit : SlotsFit x slots) (counts : CountsDown) where
   writes_pointer : (aside : Aside) (h : Here) (n : Name) (t : StaticType) (v : Value) (s : State) (pc : ℕ) (i : Instance) →
-      (bound_to h.scope.names n).static_type ≡ t → IsPointer t → IsOf t v → is_bound h.scope.names n ≡ true → Agrees x params slots aside h s i →
+      (bound_to h.scope.names n).static_type ≡ t → IsPointer t → IsOf t v → is_bound h.scope.names n ≡ true → MayChange x.forms.takes (bound_to h.scope.names n).by_loop → Agrees x params slots aside h s i →
       Stands x.body pc (op (instr.Store (slot_named (where_of params h) n)) h.line) →
       Does x params slots aside (valued pc [] v i) (suc pc) h (write_name h n how.Set v s)
-  writes_pointer aside h n _ _ s pc i e (a_pointer_type k sp args rs ns) (of_pointer _ _ _ _ tg us o) b g f =
+  writes_pointer aside h n _ _ s pc i e (a_pointer_type k sp args rs ns) (of_pointer _ _ _ _ tg us o) b free g f =
       let t = pointer_type k sp args rs in
       let old = get_or s.names (bound_to h.scope.names n).place nothing in
       let slot_at = slot_named (where_of params h) n in
@@ -183,16 +185,16 @@ module _ (x : Setting) (params slots : ℕ) (fit : SlotsFit x slots) (counts : C
       let alike = pointer_alike t old tg (a_pointer_type k sp args rs ns) (subst (λ u. IsOf u old) e held) in (
         stored slot_at (machine.Number (kept_target tg)) i,
         stores x params slots fit slot_at pc h.line (machine.Number (kept_target tg)) [] i g.slots_are f,
-        changed x params slots fit aside h s i n new b room
+        changed x params slots fit aside h s i n new b free (pointer_uncut t old (a_pointer_type k sp args rs ns) (subst (λ u. IsOf u old) e held)) room
             (subst (λ u. IsOf u new) (sym e) (of_pointer k sp args rs tg (regions_of old) o))
             (subst (λ u. IsInside x s.store u new) (sym e) tt) alike.0 alike.1 (λ t q goes. goes_alike t old tg q goes) g,
       )
 
   pub assigns : (aside : Aside) (h : Here) (n : Name) (from : StaticType) (v : Value) (s : State) (pc : ℕ) (i : Instance) →
       Assigned from (bound_to h.scope.names n).static_type → IsOf (bound_to h.scope.names n).static_type v →
-      is_bound h.scope.names n ≡ true → Agrees x params slots aside h s i →
+      is_bound h.scope.names n ≡ true → MayChange x.forms.takes (bound_to h.scope.names n).by_loop → Agrees x params slots aside h s i →
       Stands x.body pc (op (instr.Store (slot_named (where_of params h) n)) h.line) →
       Does x params slots aside (valued pc [] v i) (suc pc) h (write_name h n how.Set v s)
-  assigns aside h n from v s pc i (assigned_plain _ _ p) o b g f =
-      writes_name x params slots fit counts aside h n v s pc i (into_simple from _ p) o b g f
-  assigns aside h n from v s pc i (assigned_pointer _ _ p q) o b g f = writes_pointer aside h n _ v s pc i refl q o b g f
+  assigns aside h n from v s pc i (assigned_plain _ _ p) o b free g f =
+      writes_name x params slots fit counts aside h n v s pc i (into_simple from _ p) o b free g f
+  assigns aside h n from v s pc i (assigned_pointer _ _ p q) o b free g f = writes_pointer aside h n _ v s pc i refl q o b free g f

@@ -9,11 +9,12 @@ use Rattle.regent_tree.specs.Running.{Here, State}
 use Rattle.regent_tree.specs.Scopes.{bound_as, bound_to}
 use Rattle.regent_tree.specs.StaticTypes.{Reach}
 use Rattle.regent_tree.specs.Syntax.{Expression, Name, access_expr, at_step, no_step, plain_initializer, var_form}
-use Rattle.regent_tree.specs.Typing.{owned, parent_of, var_type}
+use Rattle.regent_tree.specs.Typing.{owned, parent_of, var_type, colour_of, initializer_type}
 use Rattle.regent_tree.specs.Values.{Partition, Region, Value, a_region, region_of}
 use Rattle.regent_tree.specs.declared.facts.Term.{Term}
 use Rattle.regent_tree.specs.declared.facts.Term.TheVariants as term
 use Rattle.regent_tree.specs.declared.types.Kind.{Kind}
+use Rattle.regent_tree.specs.declared.types.TypeTerm.{TypeTerm}
 use Rattle.regent_tree.specs.declared.typing.Bound.{Bound}
 use Rattle.regent_tree.specs.declared.typing.StaticType.{StaticType}
 use Rattle.regent_tree.specs.declared.typing.StaticType.TheVariants.{Region as region_type}
@@ -24,48 +25,59 @@ use Rattle.code_rules.specs.Initializers.{initializer_code, new_place, plain_cod
 use Rattle.code_rules.specs.Pieces.{Piece, empty, op, past, ◌⨟◌}
 use Rattle.code_rules.specs.Slots.{slot, typed}
 use Rattle.code_rules.specs.Statements.{form_code}
-use Rattle.code_laws.specs.Pointers.{IsCut, IsPointed}
+use Rattle.code_laws.specs.Pointers.{BeginsWith, IsCut, IsLike, IsPointed}
 use Rattle.code_laws.specs.Standing.{Agrees, Aside, Does, IsInside, IsOf, IsUnder, IsUnderName, LiesIn, SlotsFit, Stands, of_region, where_of}
 use Rattle.code_laws.specs.Steps.{Setting, Taking, placed}
-use Rattle.code_laws.specs.Taking.{BeginsWithin, IsHad, IsSubregion}
-use Rattle.code_laws.specs.Typed.{BeginsAsPart, CountsDown, IsIndexed, IsKeepable, IsTyped, IsTypedForm}
+use Rattle.code_laws.specs.Taking.{BeginsWithin, IsHad, IsSubregion, BeginsAt}
+use Rattle.code_laws.specs.Typed.{BeginsAsPart, CountsDown, IsIndexed, IsKeepable, IsTyped, IsTypedForm, IsDifference}
 use Rattle.code_laws.proofs.Began.{part_had}
 use Rattle.code_laws.proofs.Besides.{HasNoPart, no_part_goes}
-use Rattle.code_laws.proofs.Differences.{difference_begins}
+use Rattle.code_laws.proofs.Differences.{difference_begins, difference_said}
 use Rattle.code_laws.proofs.Domains.{part_is}
 use Rattle.code_laws.proofs.Expressions.{value_runs}
 use Rattle.code_laws.proofs.Good.{valued}
 use Rattle.code_laws.proofs.Parts.{GoodPart, IsColoured, cut_of, parent_inside, part_at_colour, part_lies_in, part_runs, part_within}
-use Rattle.code_laws.proofs.PointerForms.{begins_run}
+use Rattle.code_laws.proofs.PointerForms.{begins_run, declares_run}
 use Rattle.code_laws.proofs.Reaching.{region_had, region_lies_in}
 use Rattle.code_laws.proofs.Rows.{does_said}
 use Rattle.code_laws.proofs.Runs.{then}
 use Rattle.code_laws.proofs.Variables.{binds}
-use Rattle.code_laws.proofs.Wider.{begun, keepable}
+use Rattle.code_laws.proofs.Wider.{begun, keepable, beginning, said_either}
+use Rattle.code_laws.specs.Coloured.{IsPartOf}
+use Rattle.regent_tree.specs.declared.facts.Colour.{Colour}
+use Rattle.code_laws.proofs.Pieced.{bound_there}
+use Rattle.code_laws.proofs.SeenColours.{colour_written}
 
 abbrev number_in : Term → ℕ
 number_in (term.Name i) = i
 number_in (term.Child p c) = 0
 
 -- a new region that began as a part lies within the region of which the partition is
-begun_under : (takes : Option Taking) (bs : List Bound) (names : List Value) (k : Kind) (sp : ℕ) (args : List Reach) (own r : ℕ) (d : Region) → BeginsWithin takes own r →
-    IsUnderName bs names r d → IsUnder takes bs names (region_type k sp args (term.Name own)) (a_region d)
-begun_under None bs names k sp args own r d begins under = tt
-begun_under (Some y) bs names k sp args own r d begins under = λ i u q region named behind above is.
-    subst (λ u. IsUnderName bs names u q) (same_Some r u (sym begins.1 ∙ ap y.above (ap number_in named) ∙ above))
-    (subst (IsUnderName bs names r) (ap region_of is) under)
+begun_under : (takes : Option Taking) (bs : List Bound) (names : List Value) (k : Kind) (sp : ℕ) (args : List Reach) (own r p : ℕ) (c : Colour) (d : Region) →
+    BeginsWithin takes own r → BeginsAt takes own p c → IsUnderName bs names r d → IsPartOf bs names p c d →
+    IsUnder takes bs names (region_type k sp args (term.Name own)) (a_region d)
+begun_under None bs names k sp args own r p c d begins at under part = tt
+begun_under (Some y) bs names k sp args own r p c d begins at under part = (
+  λ i u q region named behind above is.
+      subst (λ u. IsUnderName bs names u q) (same_Some r u (sym begins.1 ∙ ap y.above (ap number_in named) ∙ above))
+      (subst (IsUnderName bs names r) (ap region_of is) under),
+  λ i k q region named behind piece is.
+      subst (λ (k : ℕ × Colour). IsPartOf bs names k.0 k.1 q) (same_Some (p, c) k (sym at ∙ ap y.piece (ap number_in named) ∙ piece))
+      (subst (IsPartOf bs names p c) (ap region_of is) part),
+)
 
 module _ (x : Setting) (params slots : ℕ) (fit : SlotsFit x slots) (counts : CountsDown) where
   -- what is known of a part that stands on the stack
-  record IsPiece (h : Here) (own r : ℕ) (sp : ℕ) (s : State) (d : Region) : Type 0 where
+  record IsPiece (h : Here) (own r p : ℕ) (k : Colour) (sp : ℕ) (s : State) (d : Region) : Type 0 where
     lies : LiesIn x.code s.store sp d
     had : IsHad x (term.Name own) d
     under : IsUnderName h.scope.names s.names r d
+    part : IsPartOf h.scope.names s.names p k d
 
   piece : (aside : Aside) (h : Here) (q : Name) (e : Expression) (v : Value) (s : State) (j : Instance) →
       (part : BeginsAsPart x.forms.takes (where_of params h) (access_expr q (at_step e no_step)) (IsIndexed x.forms (where_of params h) (access_expr q (at_step e no_step)))) →
       (c : IsColoured h q e v s.names) → Agrees x params slots aside h s j →
-      IsPiece h h.scope.next (parent_of (bound_to h.scope.names q).static_type)
+      IsPiece h h.scope.next (parent_of (bound_to h.scope.names q).static_type) (bound_to h.scope.names q).number (colour_of h.scope e)
       (space_in (bound_as h.scope.names (parent_of (bound_to h.scope.names q).static_type)).static_type) s (part_at_colour c.partition c.colour)
   piece aside h q e v s j part c g =
       let r = parent_of (bound_to h.scope.names q).static_type in
@@ -81,6 +93,16 @@ module _ (x : Setting) (params slots : ℕ) (fit : SlotsFit x slots) (counts : C
         had = part_had x x.forms.takes h.scope.next r d is.parent part.2 sub
             (subst (λ u. IsHad x u is.parent) part.1 (region_had x s.store t is.parent is.is.region inside));
         under = record { whole = is.parent; is = is.is; named = part.1; within = sub };
+        part = record {
+          cut = bound_to h.scope.names q;
+          there = bound_there h.scope.names q part.0.0.named;
+          number = refl;
+          partition = c.partition;
+          has_it = c.has_it;
+          colour = c.colour;
+          is_colour = colour_written h e s.names c.colour c.seen;
+          is = refl;
+        };
       }
 
   -- `var n = q[e]`
@@ -117,7 +139,7 @@ module _ (x : Setting) (params slots : ℕ) (fit : SlotsFit x slots) (counts : C
       (subst (λ u. IsInside x s1.store u (a_region d)) (sym type) (subst (λ sp. LiesIn x.code s1.store sp d) (sym kind.of_space) p.lies, p.had))
       (subst (λ u. IsPointed h.scope.names s1.names u (a_region d)) (sym type) tt)
       (subst (λ u. IsUnder x.forms.takes h.scope.names s1.names u (a_region d)) (sym type)
-      (begun_under x.forms.takes h.scope.names s1.names kind.kind kind.space kind.args h.scope.next r d part.2 p.under))
+      (begun_under x.forms.takes h.scope.names s1.names kind.kind kind.space kind.args h.scope.next r (bound_to h.scope.names q).number (colour_of h.scope e) d part.2 part.3 p.under p.part))
       (no_part_goes _ j.contents (length s1.store) (var_type h.tree h.scope None start) (a_region d) (subst HasNoPart (sym type) (λ p c e. absurd cc))) k1.1 f2)))
   piece_begins aside h n _ s pc i low part g f = absurd part
 
@@ -133,3 +155,19 @@ module _ (x : Setting) (params slots : ℕ) (fit : SlotsFit x slots) (counts : C
       begins_run x params slots fit counts aside h n e s pc i low (keepable x.forms.keeps w e p.0) p.1 g f)
       (⊎_elim (λ d. difference_begins x params slots fit counts aside h n e s pc i low d g f) (λ d. piece_begins aside h n e s pc i low d g f))
       (begun x.forms.keeps w e (IsKeepable x.forms.keeps w e × IsTyped x.forms w e) (BeginsAsPart x.forms.takes w e (IsIndexed x.forms w e)) fine)
+
+  -- `var n : t = e`
+  pub said_begins : (aside : Aside) (h : Here) (n : Name) (t : TypeTerm) (e : Expression) (s : State) (pc : ℕ) (i : Instance) → params ≤ length h.scope.names →
+      IsTypedForm x.forms (where_of params h) (var_form n (Some t) (Some (plain_initializer e))) → Agrees x params slots aside h s i →
+      Stands x.body pc (form_code (where_of params h) (var_form n (Some t) (Some (plain_initializer e)))) →
+      Does x params slots aside (placed pc [] i) (past (form_code (where_of params h) (var_form n (Some t) (Some (plain_initializer e)))) pc)
+      (after_statement h (var_form n (Some t) (Some (plain_initializer e)))) (exec h (var_form n (Some t) (Some (plain_initializer e))) s)
+  said_begins aside h n t e s pc i low fine g f =
+      let w = where_of params h in
+      let u = var_type h.tree h.scope (Some t) (Some (plain_initializer e)) in
+      ⊎_elim (λ (p : BeginsWith x.forms.keeps h.scope.names (typed w e) u × IsTyped x.forms w e).
+      declares_run x params slots fit counts aside h n t e s pc i low (beginning x.forms.keeps h.scope.names _ _ p.0) p.1 g f)
+      (λ (d : IsDifference w e × IsLike u (initializer_type h.tree h.scope h.scope.next (plain_initializer e))).
+      difference_said x params slots fit counts aside h n t e s pc i low d.0 d.1 g f)
+      (said_either x.forms.keeps w e (BeginsWith x.forms.keeps h.scope.names (typed w e) u × IsTyped x.forms w e)
+      (IsLike u (initializer_type h.tree h.scope h.scope.next (plain_initializer e))) fine)

@@ -38,6 +38,7 @@ use Rattle.code_rules.specs.Instructions.{load_code, standing_code}
 use Rattle.code_rules.specs.Pieces.{op, past, ◌⨟◌}
 use Rattle.code_rules.specs.Slots.{own_slot, slot, typed}
 use Rattle.code_laws.specs.Arguments.{IsCutName}
+pub use Rattle.code_laws.specs.Coloured.{part_at_colour, point_of}
 use Rattle.code_laws.specs.Pointers.{IsCounting, IsCut, IsPointed}
 use Rattle.code_laws.specs.Simple.{IsNumber, IsPartition, a_partition_type, number_index, number_integer}
 use Rattle.code_laws.specs.Standing.{Agrees, Aside, Comes, IsInside, IsOf, LiesIn, SlotsFit, Stands, nothing, of_index, of_integer, of_partition, where_of}
@@ -52,17 +53,6 @@ use Rattle.code_laws.proofs.Values.{named}
 use Rattle.code_laws.proofs.Wider.{counted}
 
 -- ---- for what a colour stands
-
--- the number for which a value stands
-abbrev pub point_of : Value → ℤ
-point_of (a_pointer (point_target n i) rs) = pos n
-point_of (a_pointer null_target rs) = pos 0
-point_of (a_number w z) = z
-point_of (an_index z) = z
-point_of (a_truth b) = pos 0
-point_of (a_space n) = pos 0
-point_of (a_region q) = pos 0
-point_of (a_partition q) = pos 0
 
 -- a number, or the one for which a name's value stands
 abbrev pub colour_seen : Here → Expression → List Value → Option ℤ
@@ -107,10 +97,6 @@ with_names Q s (gives a t) same q = (same, q)
 with_names Q s (fails f t) same q = tt
 
 -- ---- parts
-
--- the part of a colour
-abbrev pub part_at_colour : Partition → ℕ → Region
-part_at_colour q c = record { root = q.root; points = get_or q.sets c [] }
 
 -- a value is a part of the partition that a name has, and where it can be told of which colour, it is of that one
 pub record IsColoured (h : Here) (n : Name) (e : Expression) (v : Value) (names : List Value) : Type 0 where

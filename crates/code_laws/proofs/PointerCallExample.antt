@@ -10,7 +10,7 @@ use Rattle.regent_tree.specs.StaticTypes.{entry_name, task_named}
 use Rattle.code_rules.specs.Programs.{place_of}
 use Rattle.code_laws.specs.Typed.{IsTypedBlock}
 use Rattle.code_laws.specs.PointerCallExample.{PointerCallExampleHolds, totals_program}
-use Rattle.code_laws.specs.Pointers.{a_pointer_type, counts_pointer, fills_alike, assigned_plain, into_plain, keeps_plain, term_integer, passes_plain}
+use Rattle.code_laws.specs.Pointers.{a_pointer_type, counts_pointer, fills_alike, assigned_plain, into_plain, keeps_plain, term_integer, passes_plain, zero_scalar}
 use Rattle.code_laws.specs.Programs.{AreTypedTasksOf, IsTypedRun, IsTypedTaskOf, all_forms, gives_nothing, gives_scalar}
 use Rattle.code_laws.specs.Simple.{a_region_type, a_space_type, an_integer, fits_32, scalar_integer, simple_integer, term_32, two_integers}
 use Rattle.code_laws.specs.Standing.{of_integer}
@@ -22,7 +22,7 @@ main = task_named totals_program (entry_name totals_program)
 main_typed : IsTypedBlock all_forms (place_of totals_program main) main.body
 main_typed = (
   (
-    (an_integer _, (refl, scalar_integer _, (refl, tt, tt, (tt, tt), (tt, tt)), (inl (passes_plain _ _ (into_plain _ _ (fills_alike _ _ (two_integers _ _))), (refl, tt)), tt)), tt),
+    (an_integer _, (refl, zero_scalar _ (scalar_integer _), (refl, tt, tt, (tt, tt), (tt, tt)), (inl (passes_plain _ _ (into_plain _ _ (fills_alike _ _ (two_integers _ _))), (refl, tt)), tt)), tt),
     refl,
   ),
   tt,
@@ -54,9 +54,9 @@ tasks zero t e = subst (IsTypedTaskOf all_forms totals_program) (same_Some _ t e
           inl (
             inr (a_region_type _ _ _ _, record { number = 1; numbered = refl; place = refl; typed = a_region_type _ _ _ _; space = refl; is = refl }),
             (refl, tt),
-            ((an_integer _, an_integer _, (refl, inl (record { named = refl; numbers = (omega arith, (omega arith, (omega arith, (omega arith, tt)))); pointer = a_pointer_type _ _ _ _ tt; certain = refl; field = omega arith; keeps = keeps_plain _ _ _ fits_32 }, (tt, tt))), refl), tt),
+            ((an_integer _, an_integer _, (refl, inl (record { named = refl; numbers = (omega arith, (omega arith, (omega arith, (omega arith, tt)))); pointer = a_pointer_type _ _ _ _ tt; certain = refl; field = omega arith; keeps = keeps_plain _ _ _ fits_32 }, (tt, tt))), refl, tt), tt),
           ),
-          ((two_integers _ _, (refl, tt)), tt),
+          (((into_plain _ _ (fills_alike _ _ (two_integers _ _)), zero_scalar _ (scalar_integer _)), (refl, tt)), tt),
         ),
       ),
     ),

@@ -20,9 +20,9 @@ runs z fits = record {
     (refl, a_space_type _, (omega (arith, ints), an_integer _), record { there = omega arith; few = omega arith }, tt),
     -- the index
     (
-      (begins_plain _ _ (into_plain _ _ (fills_index _ _ (number_integer _))), omega (arith, ints)),
+      inl (begins_plain _ _ (into_plain _ _ (fills_index _ _ (number_integer _))), omega (arith, ints)),
       (
-        (assigned_plain _ _ (into_plain _ _ (fills_index _ _ (number_integer _))), (refl, tt), refl),
+        (assigned_plain _ _ (into_plain _ _ (fills_index _ _ (number_integer _))), (refl, tt), refl, tt),
         -- the loop over the region
         (
           inl (
@@ -75,13 +75,13 @@ runs z fits = record {
             ),
             -- null
             (
-              (begins_pointer _ _ (a_pointer_type _ _ _ _ tt) (a_pointer_type _ _ _ _ tt, (refl, a_region_type _ _ _ _, refl, tt)), (refl, (a_pointer_type _ _ _ _ tt, (refl, a_region_type _ _ _ _, refl, tt)))),
+              inl (begins_pointer _ _ (a_pointer_type _ _ _ _ tt) (a_pointer_type _ _ _ _ tt, (refl, a_region_type _ _ _ _, refl, tt)), (refl, (a_pointer_type _ _ _ _ tt, (refl, a_region_type _ _ _ _, refl, tt)))),
               -- an element
               (
                 inl (inr (a_pointer_type _ _ _ _ tt, tt), (refl, omega (arith, ints), counts_number _ (number_integer _), refl, a_region_type _ _ _ _, record { number = 1; numbered = refl; place = refl; typed = a_region_type _ _ _ _; space = refl; is = refl })),
                 -- a cast
                 (
-                  (assigned_pointer _ _ (a_pointer_type _ _ _ _ tt) (a_pointer_type _ _ _ _ tt), (refl, (a_pointer_type _ _ _ _ tt, (refl, a_region_type _ _ _ _, refl, tt)), counts_number _ (number_integer _), omega (arith, ints), refl), refl),
+                  (assigned_pointer _ _ (a_pointer_type _ _ _ _ tt) (a_pointer_type _ _ _ _ tt), (refl, (a_pointer_type _ _ _ _ tt, (refl, a_region_type _ _ _ _, refl, tt)), counts_number _ (number_integer _), omega (arith, ints), refl), refl, tt),
                   -- two pointers
                   (
                     ((a_truth_type, ((refl, tt), (compared_different _ _ (a_pointer_type _ _ _ _ tt) (a_pointer_type _ _ _ _ tt), (refl, tt), tt)), ((refl, assigned_plain _ _ (into_plain _ _ (fills_alike _ _ (two_integers _ _))), omega (arith, ints), record { named = refl; numbers = (omega arith, (omega arith, (omega arith, (omega arith, (omega arith, tt))))); pointer = a_pointer_type _ _ _ _ tt; certain = refl; field = omega arith; keeps = keeps_plain _ _ _ fits_32 }, (tt, tt)), tt), tt), tt),

@@ -21,8 +21,8 @@ use Rattle.task_code.specs.declared.instr.Instr.TheVariants as instr
 use Rattle.machine_terms.specs.declared.order.Instance.{Instance}
 use Rattle.code_rules.specs.Expressions.{expr_code}
 use Rattle.code_rules.specs.Initializers.{beside_code, new_place, plain_code, zero_kept, initializer_code}
-use Rattle.code_rules.specs.Instructions.{converted_code}
-use Rattle.code_rules.specs.Pieces.{empty, op, past, ◌⨟◌}
+use Rattle.code_rules.specs.Instructions.{converted_code, one}
+use Rattle.code_rules.specs.Pieces.{Piece, empty, op, past, ◌⨟◌}
 use Rattle.code_rules.specs.Slots.{beside, slot, typed, Where, bound}
 use Rattle.code_rules.specs.Statements.{form_code}
 use Rattle.code_laws.specs.Pointers.{AreThere, Begins, BeginsItself, IsPointed, IsPointer, IsWritten, a_pointer_type, begins_plain, begins_pointer, itself_null, itself_plain}
@@ -30,6 +30,7 @@ use Rattle.code_laws.specs.Simple.{IsRegion, IsSimple, a_region_type}
 use Rattle.code_laws.specs.Standing.{AreOf, Agrees, Aside, Does, IsInside, IsOf, SlotsFit, Stands, nothing, of_pointer, where_of, GoesToPart, blank, machine_value}
 use Rattle.code_laws.specs.Steps.{Setting, placed, machine_of, on_step, Forms}
 use Rattle.code_laws.specs.Typed.{CountsDown, IsPointing, IsTyped, element_field, field_behind}
+use Rattle.code_laws.proofs.Written.{begins_written}
 use Rattle.code_laws.proofs.Expressions.{value_runs}
 use Rattle.code_laws.proofs.Good.{Gives, Good, pushes, valued}
 use Rattle.code_laws.proofs.Counting.{into_runs}
@@ -267,15 +268,19 @@ module _ (x : Setting) (params slots : ℕ) (fit : SlotsFit x slots) (counts : C
       (sym m.1) (λ fine p falls f. name_begins aside h n m.0 s pc i low fine.0 falls (bound_to h.scope.names m.0).static_type refl p fine g f) fine p.0 p.1 f)
       (pointing_part x.forms (where_of params h) e fine p.1)
 
-  -- `var n : t = e`
-  pub declares_run : (aside : Aside) (h : Here) (n : Name) (t : TypeTerm) (e : Expression) (s : State) (pc : ℕ) (i : Instance) →
+  -- what it begins with is converted
+  abbrev ConvertedCode : Here → TypeTerm → Expression → Piece
+  ConvertedCode h t e =
+      let w = where_of params h in
+      (expr_code w 0 e ⨟ converted_code w (typed w e) (var_type h.tree h.scope (Some t) (Some (plain_initializer e))))
+      ⨟ one w (instr.Store (slot w (new_place w)))
+
+  converted_begins : (aside : Aside) (h : Here) (n : Name) (t : TypeTerm) (e : Expression) (s : State) (pc : ℕ) (i : Instance) →
       params ≤ length h.scope.names →
       Begins h.scope.names (typed (where_of params h) e) (var_type h.tree h.scope (Some t) (Some (plain_initializer e))) →
-      IsTyped x.forms (where_of params h) e → Agrees x params slots aside h s i →
-      Stands x.body pc (form_code (where_of params h) (var_form n (Some t) (Some (plain_initializer e)))) →
-      FormDoes (past (form_code (where_of params h) (var_form n (Some t) (Some (plain_initializer e)))) pc) aside h
-      (var_form n (Some t) (Some (plain_initializer e))) s pc i
-  declares_run aside h n t e s pc i low (begins_plain _ _ into) fine g f =
+      IsTyped x.forms (where_of params h) e → Agrees x params slots aside h s i → Stands x.body pc (ConvertedCode h t e) →
+      FormDoes (past (ConvertedCode h t e) pc) aside h (var_form n (Some t) (Some (plain_initializer e))) s pc i
+  converted_begins aside h n t e s pc i low (begins_plain _ _ into) fine g f =
       let w = where_of params h in
       let from = typed w e in
       let form = var_form n (Some t) (Some (plain_initializer e)) in
@@ -291,7 +296,7 @@ module _ (x : Setting) (params slots : ℕ) (fit : SlotsFit x slots) (counts : C
       (simple_inside x s1.store u v simple) (simple_pointed h.scope.names s1.names u v simple k.0)
       (type_under x.forms.takes h.scope.names s1.names u v (simple_not_region u simple))
       (no_part_goes _ j.contents (length s1.store) u v (simple_no_part u simple)) k.1 f.1)
-  declares_run aside h n t e s pc i low (begins_pointer _ _ p wr) fine g f =
+  converted_begins aside h n t e s pc i low (begins_pointer _ _ p wr) fine g f =
       let w = where_of params h in
       let from = typed w e in
       let form = var_form n (Some t) (Some (plain_initializer e)) in
@@ -308,6 +313,21 @@ module _ (x : Setting) (params slots : ℕ) (fit : SlotsFit x slots) (counts : C
       (pointer_inside x s1.store u v wr.0) pt
       (type_under x.forms.takes h.scope.names s1.names u v (pointer_not_region u wr.0))
       (no_part_goes _ j.contents (length s1.store) u v (written_no_part h.scope.names u wr)) k.1 f.1)
+
+  -- `var n : t = e`
+  pub declares_run : (aside : Aside) (h : Here) (n : Name) (t : TypeTerm) (e : Expression) (s : State) (pc : ℕ) (i : Instance) →
+      params ≤ length h.scope.names →
+      Begins h.scope.names (typed (where_of params h) e) (var_type h.tree h.scope (Some t) (Some (plain_initializer e))) →
+      IsTyped x.forms (where_of params h) e → Agrees x params slots aside h s i →
+      Stands x.body pc (form_code (where_of params h) (var_form n (Some t) (Some (plain_initializer e)))) →
+      FormDoes (past (form_code (where_of params h) (var_form n (Some t) (Some (plain_initializer e)))) pc) aside h
+      (var_form n (Some t) (Some (plain_initializer e))) s pc i
+  declares_run aside h n t e s pc i low begins fine g f =
+      let w = where_of params h in
+      let store = one w (instr.Store (slot w (new_place w))) in
+      let same = begins_written h.scope.names w (typed w e) (var_type h.tree h.scope (Some t) (Some (plain_initializer e))) e begins in
+      subst (λ (c : Piece). FormDoes (past (c ⨟ store) pc) aside h (var_form n (Some t) (Some (plain_initializer e))) s pc i) (sym same)
+      (converted_begins aside h n t e s pc i low begins fine g (subst (λ (c : Piece). Stands x.body pc (c ⨟ store)) same f))
 
   -- null
   null_value : (aside : Aside) (h : Here) (t : StaticType) (s : State) (pc : ℕ) (i : Instance) → IsPointer t →

@@ -19,8 +19,9 @@ use Rattle.machine_terms.specs.Numbers.{load}
 use Rattle.machine_terms.specs.Orders.{settled}
 use Rattle.code_rules.specs.Pieces.{op}
 use Rattle.code_rules.specs.Slots.{beside, counter, slot, spare}
-use Rattle.code_laws.specs.Simple.{IsScalar, scalar_integer, scalar_truth}
-use Rattle.code_laws.specs.Standing.{Agrees, AreReady, Aside, IsOf, SlotsFit, Stands, blank, machine_value, of_integer, of_truth, where_of}
+use Rattle.code_laws.specs.Pointers.{HasZero, zero_index, zero_scalar}
+use Rattle.code_laws.specs.Simple.{scalar_integer, scalar_truth}
+use Rattle.code_laws.specs.Standing.{Agrees, AreReady, Aside, IsOf, SlotsFit, Stands, blank, machine_value, of_index, of_integer, of_truth, where_of}
 use Rattle.code_laws.specs.Steps.{Setting, machine_of, placed, on_step, Leads}
 use Rattle.code_laws.proofs.Runs.{leads_by, leads_twice}
 use Rattle.code_laws.proofs.States.{ready_set, ready_value, stored, stores}
@@ -43,9 +44,10 @@ settled_none n z (v ∷ xs) r =
 settled_at : (n : ℕ) (z : ℤ) → settled n z (machine.Pending n) ≡ machine.Number z
 settled_at n z = ap (λ b. cond b (machine.Number z) (machine.Pending n)) (eq-eqb n n refl)
 
-kept_value : (c : Contents) (t : StaticType) (v : Value) → IsScalar t → IsOf t v → machine_value c v ≡ machine.Number (kept_number v)
-kept_value c _ _ (scalar_integer w) (of_integer _ z p) = refl
-kept_value c _ _ scalar_truth (of_truth b) = refl
+kept_value : (c : Contents) (t : StaticType) (v : Value) → HasZero t → IsOf t v → machine_value c v ≡ machine.Number (kept_number v)
+kept_value c _ _ (zero_scalar _ (scalar_integer w)) (of_integer _ z p) = refl
+kept_value c _ _ (zero_scalar _ scalar_truth) (of_truth b) = refl
+kept_value c _ _ (zero_index k) (of_index _ z p) = refl
 
 module _ (x : Setting) (params slots : ℕ) (fit : SlotsFit x slots) (aside : Aside) where
   -- a spare slot is behind those of all names
@@ -89,7 +91,7 @@ module _ (x : Setting) (params slots : ℕ) (fit : SlotsFit x slots) (aside : As
   -- from the pending child to its value
   pub results_run : (h : Here) (t : StaticType) (d n : ℕ) (v : Value) (s : State) (pc line : ℕ)
       (st : List MachineValue) (j : Instance) → params ≤ length h.scope.names →
-      IsScalar t → IsOf t v → Agrees x params slots aside h s j → get_or j.results n (pos 0) ≡ kept_number v →
+      HasZero t → IsOf t v → Agrees x params slots aside h s j → get_or j.results n (pos 0) ≡ kept_number v →
       Stands x.body pc (op (instr.Store (spare (where_of params h) d)) line) →
       Stands x.body (suc pc) (op (instr.Load (spare (where_of params h) d)) line) →
       Leads x (placed pc (machine.Pending n ∷ st) j)

@@ -10,7 +10,7 @@ use Rattle.regent_tree.specs.Lookup.{is_bound}
 use Rattle.regent_tree.specs.Scopes.{bound_to}
 use Rattle.regent_tree.specs.Syntax.{Name, Expression, access_expr, no_step, Block, Tree}
 use Rattle.regent_tree.specs.Typing.{owned, scope_after_block}
-use Rattle.regent_tree.specs.Values.{Value, a_number, a_truth, truth_of, kept_truth}
+use Rattle.regent_tree.specs.Values.{Value, a_number, a_truth, an_index, truth_of, kept_truth}
 use Rattle.regent_tree.specs.Running.{Calls, State, Here, Run, Result, gives, fails, given, and_then, if_true, fault, pay_from}
 use Rattle.regent_tree.specs.Execution.{Going, goes_on, returned, going_on, leaving, scoped, with_regions_of, write_name, exec_block}
 use Rattle.task_code.specs.declared.code.Line.{Line}
@@ -29,8 +29,8 @@ use Rattle.code_rules.specs.Initializers.{beside_code, plain_code}
 use Rattle.code_rules.specs.Used.{greatest, above_all}
 use Rattle.code_laws.specs.Steps.{Setting, machine_of, placed, on_step, Leads, Ends}
 use Rattle.code_laws.specs.Standing.{AreUnder, Answering, program_of, Stands, machine_value, IsInside, IsOf, AreOf, of_index, of_integer, of_space, of_truth, nothing, Aside, where_of, Agrees, SlotsFit, Does, AreBeside, blank}
-use Rattle.code_laws.specs.Pointers.{ArePointed}
-use Rattle.code_laws.specs.Simple.{IsScalar, IsSimple, scalar_integer, scalar_truth, simple_index, simple_integer, simple_space, simple_truth}
+use Rattle.code_laws.specs.Pointers.{ArePointed, HasZero, zero_index, zero_scalar}
+use Rattle.code_laws.specs.Simple.{IsSimple, scalar_integer, scalar_truth, simple_index, simple_integer, simple_space, simple_truth}
 use Rattle.code_laws.specs.Typed.{CountsDown}
 use Rattle.code_laws.proofs.Runs.{Said, leads_twice, leads_end, leads_by, ends_by}
 use Rattle.code_laws.proofs.Pointing.{simple_alike, simple_no_region, simple_plain}
@@ -39,6 +39,8 @@ use Rattle.code_laws.proofs.Good.{valued}
 use Rattle.code_laws.proofs.Names.{Grown, block_grown}
 use Rattle.code_laws.proofs.States.{stored, stores, changed, cut}
 use Rattle.code_laws.proofs.Besides.{plain_alike}
+use Rattle.code_laws.proofs.Pieced.{simple_uncut}
+use Rattle.code_laws.specs.Taking.{MayChange}
 
 -- ---- plain start values
 
@@ -309,10 +311,10 @@ module _ (x : Setting) (params slots : ℕ) (fit : SlotsFit x slots) (counts : C
 
   pub writes_name : (aside : Aside) (h : Here) (n : Name) (v : Value) (s : State) (pc : ℕ) (i : Instance) →
       IsSimple (bound_to h.scope.names n).static_type → IsOf (bound_to h.scope.names n).static_type v →
-      is_bound h.scope.names n ≡ true → Agrees x params slots aside h s i →
+      is_bound h.scope.names n ≡ true → MayChange x.forms.takes (bound_to h.scope.names n).by_loop → Agrees x params slots aside h s i →
       Stands x.body pc (op (instr.Store (slot_named (where_of params h) n)) h.line) →
       Does x params slots aside (valued pc [] v i) (suc pc) h (write_name h n how.Set v s)
-  writes_name aside h n v s pc i p ty b g f =
+  writes_name aside h n v s pc i p ty b free g f =
       let old = get_or s.names (bound_to h.scope.names n).place nothing in
       let k = slot_named (where_of params h) n in
       let room : k < slots = omega (arith, fit pc _ f) in
@@ -321,7 +323,7 @@ module _ (x : Setting) (params slots : ℕ) (fit : SlotsFit x slots) (counts : C
       (sym (plain_kept _ old v p ty)) (
         stored k (machine_value i.contents v) i,
         stores x params slots fit k pc h.line (machine_value i.contents v) [] i g.slots_are f,
-        changed x params slots fit aside h s i n v b room ty (simple_inside x s.store _ v p)
+        changed x params slots fit aside h s i n v b free (simple_uncut _ old p (named IsOf h.scope.names s.names n g.typed b).holding) room ty (simple_inside x s.store _ v p)
             (simple_no_region _ old p (named IsOf h.scope.names s.names n g.typed b).holding) (simple_alike _ old v p ty)
             (λ t q goes. plain_alike t old v q (simple_plain _ v p ty) goes) g,
       )
@@ -337,10 +339,10 @@ module _ (x : Setting) (params slots : ℕ) (fit : SlotsFit x slots) (counts : C
       (ap (λ t. IsOver (Broke (Some (record { kind = AssertFailed; line = h.line })) t)) g.text)
 
   pub returns : (aside : Aside) (h : Here) (u : StaticType) (v : Value) (s : State) (pc pc2 : ℕ) (i : Instance) →
-      IsScalar u → u ≡ x.result → IsOf u v → Agrees x params slots aside h s i →
+      HasZero u → u ≡ x.result → IsOf u v → Agrees x params slots aside h s i →
       Stands x.body pc (op instr.ReturnValue h.line) →
       Does x params slots aside (valued pc [] v i) pc2 h (gives (returned v) s)
-  returns aside h _ _ s pc pc2 i (scalar_integer w) e (of_integer _ z p) g f = (
+  returns aside h _ _ s pc pc2 i (zero_scalar _ (scalar_integer w)) e (of_integer _ z p) g f = (
     Some z,
     valued pc [] (a_number w z) i,
     ends_by x _ _ instr.ReturnValue h.line f refl,
@@ -350,7 +352,7 @@ module _ (x : Setting) (params slots : ℕ) (fit : SlotsFit x slots) (counts : C
     g.framed,
     λ c q. subst (λ t. IsOf t (a_number w z)) e (of_integer w z p),
   )
-  returns aside h _ _ s pc pc2 i scalar_truth e (of_truth b) g f = (
+  returns aside h _ _ s pc pc2 i (zero_scalar _ scalar_truth) e (of_truth b) g f = (
     Some (kept_truth b),
     valued pc [] (a_truth b) i,
     ends_by x _ _ instr.ReturnValue h.line f refl,
@@ -359,6 +361,16 @@ module _ (x : Setting) (params slots : ℕ) (fit : SlotsFit x slots) (counts : C
     g.memory,
     g.framed,
     λ c q. subst (λ t. IsOf t (a_truth b)) e (of_truth b),
+  )
+  returns aside h _ _ s pc pc2 i (zero_index k) e (of_index _ z p) g f = (
+    Some z,
+    valued pc [] (an_index z) i,
+    ends_by x _ _ instr.ReturnValue h.line f refl,
+    refl,
+    g.text,
+    g.memory,
+    g.framed,
+    λ c q. subst (λ t. IsOf t (an_index z)) e (of_index k z p),
   )
 
   -- ---- blocks and loops

@@ -13,7 +13,7 @@ use Rattle.regent_tree.specs.declared.types.TypeTerm.{TypeTerm}
 use Rattle.regent_tree.specs.declared.types.NumberTerm.{NumberTerm}
 use Rattle.regent_tree.specs.declared.types.NumberTerm.TheVariants as number
 use Rattle.regent_tree.specs.declared.types.TypeTerm.TheVariants as term
-use Rattle.local_form.specs.LocalForm.{Marked, is_partition_term, is_pointer_term, is_taken_term, marked_param, with_pointer, converts_to, gives_pointer, is_difference, is_partition_name, keeps_pointer, is_kept_term, is_pointing, marked_by_term, begins_part, takes_part, takes_partition_off, takes_value, with_either, with_part, with_partition, are_local_arms, are_local_expressions, are_local_links, are_local_params, are_scalar_params, gives_scalar, is_local_block, is_local_else, is_local_expression, is_local_form, is_local_item, is_local_program, is_local_task, is_index_or_space, is_local_param, is_local_with, is_region_term, links_give, marked_by, marked_by_arms, marked_by_else, marked_by_item, marked_by_items, marked_by_task, marked_in, marked_params, unmarked, with_index, with_region, is_said_term, takes_signs}
+use Rattle.local_form.specs.LocalForm.{Marked, is_partition_term, is_pointer_term, is_taken_term, marked_param, with_pointer, converts_to, gives_pointer, is_difference, is_partition_name, keeps_pointer, is_kept_term, is_pointing, marked_by_term, begins_part, takes_part, takes_partition_off, takes_value, with_either, with_partition, are_local_arms, are_local_expressions, are_local_links, are_local_params, are_scalar_params, gives_scalar, is_local_block, is_local_else, is_local_expression, is_local_form, is_local_item, is_local_program, is_local_task, is_index_or_space, is_local_param, is_local_with, is_region_term, links_give, marked_by, marked_by_arms, marked_by_else, marked_by_item, marked_by_items, marked_by_task, marked_in, marked_params, unmarked, with_index, with_region, is_said_term, takes_signs, is_index_if_said, is_local_result, with_index_task, says_difference}
 use Rattle.code_laws.specs.LocalPrograms.{has_no_pointer, keeps_nothing, takes_scalars}
 use Rattle.code_laws.proofs.Typing.{no_way_back}
 use Rattle.scalar_form.specs.ScalarForm.{are_scalar_arms, are_scalar_expressions, are_scalar_links, is_empty, is_scalar_block, is_scalar_else, is_scalar_expression, is_scalar_form, is_scalar_if_said, is_scalar_item, is_scalar_number, is_scalar_program, is_scalar_task, is_scalar_term}
@@ -28,7 +28,7 @@ or_true false = refl
 module _ (keeping : Bool) where
   -- no marks, where indices and pointers may be assigned or may not
   abbrev bare : Marked
-  bare = record { regions = []; partitions = []; indices = []; pointers = []; index_fields = []; pointer_fields = []; keeps = keeping; parts = false }
+  bare = record { regions = []; partitions = []; indices = []; pointers = []; index_fields = []; pointer_fields = []; index_tasks = []; keeps = keeping }
 
   takes : (n : Name) → takes_value bare n ≡ true
   takes n = ap (λ k. k && true) (or_true keeping)
@@ -160,15 +160,15 @@ module _ (keeping : Bool) where
         or_right (begins_part bare n e) _ (ap (λ b. (b || false) && (keeps_pointer bare n e && ((is_difference bare e && false) || is_local_expression bare e))) a.1
             ∙ ap (λ b. (not b || (is_pointing e && false)) && ((is_difference bare e && false) || is_local_expression bare e)) (none_points e sc)
             ∙ ap (λ b. (b && false) || is_local_expression bare e) (no_difference e) ∙ a.0),
-        ap (λ b. cond b (with_partition n bare) (cond (takes_part bare e) (with_part n bare) (cond (gives_scalar bare e) bare (with_either (gives_pointer bare e) n bare))))
+        ap (λ b. cond b (with_partition n bare) (cond (takes_part bare e) (with_region n bare) (cond (gives_scalar bare e) bare (with_either (gives_pointer bare e) n bare))))
             (no_difference e)
-            ∙ ap (λ b. cond b (with_part n bare) (cond (gives_scalar bare e) bare (with_either (gives_pointer bare e) n bare))) (no_part e)
+            ∙ ap (λ b. cond b (with_region n bare) (cond (gives_scalar bare e) bare (with_either (gives_pointer bare e) n bare))) (no_part e)
             ∙ ap (λ b. cond b bare (with_either (gives_pointer bare e) n bare)) a.1,
       )
   var_local n (Some t) (Some (plain_initializer e)) sc =
       let s = and_parts (is_scalar_term t) (is_scalar_expression e) sc in
       let k = scalar_kept n t s.0 in
-      (both_true (is_said_term bare n t) (is_local_expression bare e) k.1 (expression_local e s.1).0, k.2)
+      (or_right (says_difference bare n t e) _ (both_true (is_said_term bare n t) (is_local_expression bare e) k.1 (expression_local e s.1).0), k.2)
   var_local n t (Some (region_initializer _ _)) sc = absurd (no_way_back (and_parts (is_scalar_if_said t) false sc).1)
   var_local n t (Some (equal_initializer _ _)) sc = absurd (no_way_back (and_parts (is_scalar_if_said t) false sc).1)
   var_local n t (Some (by_field_initializer _ _ _)) sc = absurd (no_way_back (and_parts (is_scalar_if_said t) false sc).1)
@@ -300,15 +300,27 @@ params_local m (p ∷ ps) e =
 -- a task is of the form without marks
 task_bare : (k : Bool) (t : TaskTree) → IsScalarTask t → is_local_with (bare k) t ≡ true
 task_bare k t s = both_true (are_local_params (bare k) t.params) _ (params_local (bare k) t.params s.params)
-    (both_true (is_scalar_if_said t.result) _ s.result (block_local k t.body s.body).0)
+    (both_true (is_local_result t.result) _ (ap (λ b. b || is_index_if_said t.result) s.result) (block_local k t.body s.body).0)
 
--- there are no fields
+-- what gives a number or truth gives no index
+scalar_no_index : (r : Option TypeTerm) → is_scalar_if_said r ≡ true → is_index_if_said r ≡ false
+scalar_no_index None e = refl
+scalar_no_index (Some (term.Number number.Int32)) e = refl
+scalar_no_index (Some (term.Number number.Int64)) e = refl
+scalar_no_index (Some (term.Number (number.Index k))) e = absurd (no_way_back e)
+scalar_no_index (Some term.Truth) e = refl
+scalar_no_index (Some (term.Pointer p)) e = refl
+scalar_no_index (Some (term.Ispace k)) e = refl
+scalar_no_index (Some (term.Region k u)) e = refl
+scalar_no_index (Some (term.Partition d r c)) e = refl
+
+-- there are no fields, and no such tasks
 no_item_marks : (i : ItemForm) (m : Marked) → is_scalar_item i ≡ true → marked_by_item i m ≡ m
 no_item_marks import_item m e = refl
 no_item_marks (alias_item n) m e = refl
 no_item_marks (start_item n) m e = refl
 no_item_marks (space_item s) m e = absurd (no_way_back e)
-no_item_marks (task_item t) m e = refl
+no_item_marks (task_item t) m e = ap (λ b. cond b (with_index_task t.name m) m) (scalar_no_index t.result (scalar_task t e).result)
 
 abbrev AreScalar : Tree → Type 0
 AreScalar tree = list_all (λ (i : ItemTree). is_scalar_item i.form) tree ≡ true

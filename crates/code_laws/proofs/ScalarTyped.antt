@@ -92,8 +92,8 @@ mutual
   scalar_statement w (do_form body) sc a = scalar_block w body sc a
   scalar_statement w (assert_form e) sc a = (a.0, scalar_typed w e sc a.1)
   scalar_statement w (print_form alias format args) sc a = (scalar_numbers w args sc a.0, a.1)
-  scalar_statement w (assign_form n no_step how.Set e) sc a = (a.0, scalar_typed w e sc a.1, a.2)
-  scalar_statement w (assign_form n no_step (how.Reduce o) e) sc a = (a.0, a.1, scalar_typed w e sc a.2, a.3)
+  scalar_statement w (assign_form n no_step how.Set e) sc a = (a.0, scalar_typed w e sc a.1, a.2, a.3)
+  scalar_statement w (assign_form n no_step (how.Reduce o) e) sc a = (a.0, a.1, scalar_typed w e sc a.2, a.3, a.4)
   scalar_statement w (assign_form n (field_step _ _) h e) sc a = absurd (no_way_back sc)
   scalar_statement w (assign_form n (at_step _ _) h e) sc a = absurd (no_way_back sc)
   scalar_statement w (return_form None) sc a = λ c. absurd (not_true c)

@@ -3,8 +3,8 @@ use Rattle.code_laws.proofs.Behind.{folds_behind, sets_behind}
 use Rattle.code_laws.proofs.Moving.{assigned_runs, assigns}
 use Rattle.code_laws.proofs.FurtherWrites.{behind_reduced, behind_set, element_reduced, element_set}
 use Rattle.code_laws.proofs.Domains.{domains_run}
-use Rattle.code_laws.proofs.PointerForms.{declares_run, itself_run}
-use Rattle.code_laws.proofs.Wider.{any_field, assigned, beginning, counting, zeroed}
+use Rattle.code_laws.proofs.PointerForms.{itself_run}
+use Rattle.code_laws.proofs.Wider.{any_field, assigned, counting, zeroed}
 use Rattle.code_laws.proofs.Variables.{fill_runs}
 use Rattle.code_laws.proofs.Begun.{begun_runs, like_itself}
 use Rattle.code_laws.proofs.Elements.{folds_element, sets_element}
@@ -36,12 +36,14 @@ use Rattle.code_rules.specs.Statements.{form_code, arms_code, else_code, block_c
 use Rattle.code_rules.specs.Assignments.{right_code}
 use Rattle.code_laws.specs.Steps.{Setting, placed}
 use Rattle.code_laws.specs.Standing.{Stands, machine_value, blank, Aside, where_of, Agrees, SlotsFit, Does}
-use Rattle.code_laws.specs.Simple.{IsScalar, a_partition_type, a_region_type}
+use Rattle.code_laws.specs.Pointers.{HasZero}
+use Rattle.code_laws.specs.Simple.{a_partition_type, a_region_type}
 use Rattle.code_laws.specs.Typed.{CountsDown, element_field, field_behind, AreTypedArms, IsTypedBlock, IsTypedElse, IsTypedForm}
 use Rattle.code_laws.proofs.Runs.{leads_by, leads_none, leads_twice, ends_by, then, comes_said}
 use Rattle.code_laws.proofs.Values.{past_later}
 use Rattle.code_laws.proofs.Good.{valued, Good}
-use Rattle.code_laws.proofs.Operations.{converted_runs, fetch_small, alike_right, truth_of_type}
+use Rattle.code_laws.proofs.Counting.{into_runs}
+use Rattle.code_laws.proofs.Operations.{fetch_small, truth_of_type}
 use Rattle.code_laws.proofs.Expressions.{AreGiven, args_run, value_runs}
 use Rattle.code_laws.proofs.CallTakes.{call_takes}
 use Rattle.code_laws.proofs.Calling.{HasResult, calls_run, pending}
@@ -51,7 +53,7 @@ use Rattle.code_laws.proofs.PrintRuns.{values_run, prints}
 use Rattle.code_laws.proofs.Names.{form_grown, block_grown, arms_names, else_names}
 use Rattle.code_laws.proofs.States.{aside_stored, ready_value, stored, stores}
 use Rattle.code_laws.proofs.Began.{whole_fresh}
-use Rattle.code_laws.proofs.PartVariables.{plain_begins}
+use Rattle.code_laws.proofs.PartVariables.{plain_begins, said_begins}
 use Rattle.code_laws.proofs.Under.{type_under, whole_under}
 
 module _ (x : Setting) (params slots : ℕ) (fit : SlotsFit x slots) (counts : CountsDown) where
@@ -66,7 +68,7 @@ module _ (x : Setting) (params slots : ℕ) (fit : SlotsFit x slots) (counts : C
     form_runs aside h (var_form n None (Some (plain_initializer e))) s pc i low fine g f =
         plain_begins x params slots fit counts aside h n e s pc i low fine g f
     form_runs aside h (var_form n (Some t) (Some (plain_initializer e))) s pc i low fine g f =
-        declares_run x params slots fit counts aside h n t e s pc i low (beginning x.forms.keeps h.scope.names _ _ fine.0) fine.1 g f
+        said_begins x params slots fit counts aside h n t e s pc i low fine g f
     form_runs aside h (var_form n (Some t) None) s pc i low fine g f =
         itself_run x params slots fit counts aside h n t s pc i low (zeroed x.forms.keeps h.scope.names _ fine) g f
     form_runs aside h (assign_form n no_step how.Set e) s pc i low fine g f =
@@ -80,7 +82,7 @@ module _ (x : Setting) (params slots : ℕ) (fit : SlotsFit x slots) (counts : C
         (then x (comes_said x _ _) _ _ _ (value h e s) _
         (value_runs x params slots fit aside h 0 low e s pc [] i fine.1 g f.0.0)
         (λ v s1 j k. assigned_runs x params slots fit aside h t u [] v s1 _ [] j into k.0 k.1 f.0.1))
-        (λ v s1 j k. assigns x params slots fit counts aside h n t v s1 _ j into k.0 fine.2 k.1 f.1)
+        (λ v s1 j k. assigns x params slots fit counts aside h n t v s1 _ j into k.0 fine.2 fine.3 k.1 f.1)
     form_runs aside h (assign_form n no_step (how.Reduce o) e) s pc i low fine g f =
         let w = where_of params h in
         let t = typed w e in
@@ -88,7 +90,7 @@ module _ (x : Setting) (params slots : ℕ) (fit : SlotsFit x slots) (counts : C
         then x (does_said x params slots fit counts aside done h) (valued (past (expr_code w 0 e) pc) [])
         (Good x params slots fit aside h t) _ (value h e s) _
         (value_runs x params slots fit aside h 0 low e s pc [] i fine.2 g f.0)
-        (λ v s1 j k. folds x params slots fit counts aside h n o t v s1 _ j low fine.0 fine.1 k.0 fine.3 k.1 f.1)
+        (λ v s1 j k. folds x params slots fit counts aside h n o t v s1 _ j low fine.0 fine.1 k.0 (fine.3, fine.4) k.1 f.1)
     form_runs aside h (assert_form e) s pc i low fine g f =
         let t = typed (where_of params h) e in
         then x (does_said x params slots fit counts aside _ h) _ _ _ (value h e s) _
@@ -107,7 +109,7 @@ module _ (x : Setting) (params slots : ℕ) (fit : SlotsFit x slots) (counts : C
       g.text,
       g.memory,
       g.framed,
-      λ c q. absurd (fine c (subst IsScalar (sym g.result_is) q)),
+      λ c q. absurd (fine c (subst HasZero (sym g.result_is) q)),
     )
     form_runs aside h (return_form (Some e)) s pc i low fine g f =
         let t = typed (where_of params h) e in
@@ -115,9 +117,9 @@ module _ (x : Setting) (params slots : ℕ) (fit : SlotsFit x slots) (counts : C
         then x (does_said x params slots fit counts aside done h) _ _ _ (value h e s) _
         (value_runs x params slots fit aside h 0 low e s pc [] i fine.1 g f.0)
         (λ v s1 j k. then x (does_said x params slots fit counts aside _ h) _ (Good x params slots fit aside h h.result) _ (converted h t h.result [] v s1) _
-        (converted_runs x params slots fit aside h t h.result [] v s1 _ [] j fine.0 k.0 k.1 f.1.0)
+        (into_runs x params slots fit aside h t h.result [] v s1 _ [] j fine.0.0 k.0 k.1 f.1.0)
         (λ u s2 j2 k2. returns x params slots fit counts aside h h.result u s2 _ done j2
-        (alike_right x params slots fit aside t h.result fine.0) k2.1.result_is k2.0 k2.1 f.1.1))
+        fine.0.1 k2.1.result_is k2.0 k2.1 f.1.1))
     form_runs aside h (do_form body) s pc i low fine g f =
         does_as x params slots fit counts aside _ h (after_statement h (do_form body)) _ _ (refl, refl)
         (scoped_by x params slots fit counts aside h body s _ _ i low g (block_runs aside h body s pc i low fine g f))

@@ -28,8 +28,10 @@ use Rattle.code_laws.proofs.Values.{named}
 use Rattle.code_laws.specs.Pointers.{ArePointed, IsPointed}
 use Rattle.code_laws.proofs.Besides.{beside_changes, beside_cut, beside_fewer, beside_set, beside_slots}
 use Rattle.code_laws.proofs.Names.{Grown, typed_more, typed_cut, typed_set, typed_fewer}
-use Rattle.code_laws.proofs.Under.{alike_no_region, under_cut, under_fewer, under_more, under_set}
+use Rattle.code_laws.proofs.Under.{alike_no_region, under_cut, under_fewer, under_more}
 use Rattle.code_laws.proofs.Pointing.{GoAlike, IsNoRegion, pointed_cut, pointed_fewer, pointed_more, pointed_set, region_kept}
+use Rattle.code_laws.proofs.Pieced.{IsNoPartition, under_changed}
+use Rattle.code_laws.specs.Taking.{MayChange}
 
 -- no value is a child that is pending
 pub ready_value : (c : Contents) (v : Value) → is_pending (machine_value c v) ≡ false
@@ -151,7 +153,7 @@ module _ (x : Setting) (params slots : ℕ) (fit : SlotsFit x slots) where
 
   -- another value of a name
   pub changed : (o : Aside) (h : Here) (s : State) (i : Instance) (n : Name) (v : Value) →
-      is_bound h.scope.names n ≡ true →
+      is_bound h.scope.names n ≡ true → MayChange x.forms.takes (bound_to h.scope.names n).by_loop → IsNoPartition (get_or s.names (bound_to h.scope.names n).place nothing) →
       slot (where_of params h) (bound_to h.scope.names n).place < slots →
       IsOf (bound_to h.scope.names n).static_type v → IsInside x s.store (bound_to h.scope.names n).static_type v →
       IsNoRegion (get_or s.names (bound_to h.scope.names n).place nothing) →
@@ -160,7 +162,7 @@ module _ (x : Setting) (params slots : ℕ) (fit : SlotsFit x slots) where
       Agrees x params slots o h s i →
       Agrees x params slots o h (record s { names = slice_set s.names (bound_to h.scope.names n).place v })
       (stored (slot (where_of params h) (bound_to h.scope.names n).place) (machine_value i.contents v) i)
-  changed o h s i n v b room ty inside none alike part g =
+  changed o h s i n v b free uncut room ty inside none alike part g =
       let w = where_of params h in
       let k = (bound_to h.scope.names n).place in
       let c = g.count in
@@ -192,8 +194,9 @@ module _ (x : Setting) (params slots : ℕ) (fit : SlotsFit x slots) where
         inside_store = typed_set (IsInside x s.store) h.scope.names s.names n v (omega (arith, c)) b inside g.inside_store;
         pointed = pointed_set s.names k v (omega (arith, low, c)) none alike params h.scope.names g.pointed;
         steady = λ p q l e. region_kept s.names k v none p q (g.steady p q l e);
-        under = under_set x.forms.takes h.scope.names s.names k v (omega (arith, low, c)) none
-            (alike_no_region (bound_to h.scope.names n).static_type (get_or s.names k nothing) v (named IsOf h.scope.names s.names n g.typed b).holding ty none) g.typed g.under;
+        under = under_changed x.forms.takes h.scope.names s.names n v b free uncut (omega (arith, low, c)) none
+            (alike_no_region (bound_to h.scope.names n).static_type (get_or s.names k nothing) v (named IsOf h.scope.names s.names n g.typed b).holding ty none)
+            g.typed g.under;
         besides = beside_set (λ p. get_or xs (beside w p) blank) (λ p. get_or (slice_set xs (slot w k) m) (beside w p) blank) i.contents params
             (length s.store) h.scope.names s.names k v g.typed (omega (arith, low, c)) part
             (λ p l e. set_other xs (slot w k) (beside w p) m (λ q. omega (arith, q, l))) g.besides;

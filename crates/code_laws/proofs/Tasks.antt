@@ -4,6 +4,7 @@ use Rattle.code_laws.proofs.Variables.{zero_fits}
 use Rattle.std.proofs.Common.{inr, ◌≡◌, ℕ, zero, suc, ◌+◌, ◌^◌, ◌<◌, ◌≤◌, ℤ, pos, List, [], ◌∷◌, ◌++◌, Option, Some, None, refl, sym, ap, ◌∙◌, subst, arith}
 use Rattle.std.specs.Prelude.{Bool, get_or, length, map, take, true, false}
 use Rattle.std.specs.List.{Contains}
+use Rattle.lane_kernels.specs.declared.numbers.Width.TheVariants.{W64}
 use Rattle.std.proofs.lemmas.List.{reverse-append}
 use Rattle.std.proofs.lemmas.Option.{none-some, same_Some}
 use Rattle.std.proofs.lemmas.Bool.{eq-eqb}
@@ -47,10 +48,10 @@ use Rattle.memory_laws.specs.Memory.{Holds, memory_of}
 use Rattle.memory_laws.specs.Places.{numbers}
 use Rattle.memory_laws.proofs.Given.{given_keeps_numbers, given_stands}
 use Rattle.code_laws.specs.Handing.{AreTypedBy, forms_by, takes_by, taking_of}
-use Rattle.code_laws.specs.Pointers.{given_pointed}
-use Rattle.code_laws.specs.Programs.{IsGiven, called_setting, gives_nothing, gives_scalar}
-use Rattle.code_laws.specs.Simple.{IsRegion, IsScalar, a_region_type, scalar_integer, scalar_truth, term_in}
-use Rattle.code_laws.specs.Standing.{Answering, AreTaken, AreUnder, Does, IsFramed, IsInside, IsOf, IsTaken, LiesIn, Matches, Returns, Stands, Takes, back, both_back, both_broke, called_with, of_integer, of_partition, of_pointer, of_region, of_truth, takes_partition, takes_pointer, takes_region, takes_value}
+use Rattle.code_laws.specs.Pointers.{HasZero, given_pointed, zero_index, zero_scalar}
+use Rattle.code_laws.specs.Programs.{IsGiven, called_setting, gives_index, gives_nothing, gives_scalar}
+use Rattle.code_laws.specs.Simple.{IsRegion, a_region_type, scalar_integer, scalar_truth, term_in}
+use Rattle.code_laws.specs.Standing.{Answering, AreTaken, AreUnder, Does, IsFramed, IsInside, IsOf, IsTaken, LiesIn, Matches, Returns, Stands, Takes, back, both_back, both_broke, called_with, of_index, of_integer, of_partition, of_pointer, of_region, of_truth, takes_partition, takes_pointer, takes_region, takes_value}
 use Rattle.code_laws.specs.Steps.{Ends, Setting, Taking, placed}
 use Rattle.code_laws.specs.Taking.{AreParts, IsGivenAs, IsHadBy, IsSubregion, given_region, needs_taken, pairs_in, pairs_taken, up_itself}
 use Rattle.code_laws.proofs.Under.{sub_itself}
@@ -135,7 +136,10 @@ low_under : (handing : Bool) (tree : Tree) (t : TaskTree) (bs : List Bound) (nam
 low_under handing tree t [] names a = tt
 low_under false tree t (b ∷ bs) names a = (tt, low_under false tree t bs names a.1)
 low_under true tree t (b ∷ bs) names a = (
-  λ i r q region named behind above is. let low = a.0 i region named in absurd (omega (arith, low, behind)),
+  (
+    λ i r q region named behind above is. let low = a.0 i region named in absurd (omega (arith, low, behind)),
+    λ i k q region named behind piece is. let low = a.0 i region named in absurd (omega (arith, low, behind)),
+  ),
   low_under true tree t bs names a.1,
 )
 
@@ -176,16 +180,15 @@ taken_inside x all takes code store i n (t ∷ ts) (v ∷ vs) ec ea has long at 
 taken_inside x all takes code store i n [] (v ∷ vs) ec ea has long at own a = absurd a
 taken_inside x all takes code store i n (t ∷ ts) [] ec ea has long at own a = absurd a
 
-zero_typed : (sc : Scope) (t : StaticType) → IsScalar t → IsOf t (zero_of sc [] t)
-zero_typed sc _ (scalar_integer w) = of_integer w (pos 0) (zero_fits w)
-zero_typed sc _ scalar_truth = of_truth _
-
-zero_scalar : (sc : Scope) (t : StaticType) → IsScalar t → kept_number (zero_of sc [] t) ≡ pos 0
-zero_scalar sc _ (scalar_integer w) = refl
-zero_scalar sc _ scalar_truth = refl
+zero_typed : (sc : Scope) (t : StaticType) → HasZero t → IsOf t (zero_of sc [] t)
+zero_typed sc _ (zero_scalar _ (scalar_integer w)) = of_integer w (pos 0) (zero_fits w)
+zero_typed sc _ (zero_scalar _ scalar_truth) = of_truth _
+zero_typed sc _ (zero_index k) = of_index k (pos 0) (zero_fits W64)
 
 zero_given : (sc : Scope) (t : StaticType) → IsGiven t → kept_number (zero_of sc [] t) ≡ pos 0
-zero_given sc _ (gives_scalar t s) = zero_scalar sc t s
+zero_given sc _ (gives_scalar _ (scalar_integer w)) = refl
+zero_given sc _ (gives_scalar _ scalar_truth) = refl
+zero_given sc _ (gives_index k) = refl
 zero_given sc _ gives_nothing = refl
 
 -- where one task takes regions, each does

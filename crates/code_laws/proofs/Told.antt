@@ -3,6 +3,7 @@ use Rattle.std.proofs.Common.{◌≡◌, ℕ, suc, ◌<◌, ◌≤◌, List, [],
 use Rattle.std.specs.Prelude.{cond, ◌==◌}
 use Rattle.std.proofs.lemmas.Bool.{ne_eqb}
 use Rattle.std.proofs.lemmas.List.{append-nil, append_assoc}
+use Rattle.std.proofs.lemmas.Option.{none-some}
 use Rattle.regent_tree.proofs.Members.{Has, Has-append_cases}
 use Rattle.regent_tree.specs.Scopes.{Scope, known_of_type, past, with_name}
 use Rattle.regent_tree.specs.Syntax.{Arms, Block, Form, Initializer, Otherwise, Tree, a_statement, an_arm, assert_form, assign_form, both_initializer, by_field_initializer, call_form, do_form, either_initializer, else_block, equal_initializer, fill_form, for_in_form, for_to_form, if_form, image_initializer, no_arm, no_else, no_statement, plain_initializer, preimage_initializer, print_form, region_initializer, return_form, then_statement, var_form, while_form}
@@ -18,25 +19,25 @@ use Rattle.regent_tree.specs.declared.types.TypeTerm.{TypeTerm}
 use Rattle.regent_tree.specs.declared.types.TypeTerm.TheVariants as term
 use Rattle.regent_tree.specs.declared.typing.StaticType.{StaticType}
 use Rattle.regent_tree.specs.declared.typing.StaticType.TheVariants.{Index as index_type, Integer as integer_type, Ispace as ispace_type, Nothing as no_type, Partition as partition_type, Pointer as pointer_type, Region as region_type, Truth as truth_type, Unknown as unknown_type}
-use Rattle.code_laws.specs.Above.{cut_told, first_told, or_other, whole_told}
+use Rattle.code_laws.specs.Above.{cut_told, first_told, or_other, piece_told, whole_told}
 
 -- ---- the first fact that tells something
 
-pub told_append : (f : Known → Option ℕ) (ks more : List Known) → first_told f (ks ++ more) ≡ or_other (first_told f ks) (first_told f more)
+pub told_append : {A : Type 0} (f : Known → Option A) (ks more : List Known) → first_told f (ks ++ more) ≡ or_other (first_told f ks) (first_told f more)
 told_append f [] more = refl
-told_append f (k ∷ ks) more = ap (or_other (f k)) (told_append f ks more) ∙ joined (f k) (first_told f ks)
+told_append {A = A} f (k ∷ ks) more = ap (or_other (f k)) (told_append f ks more) ∙ joined (f k) (first_told f ks)
   where
-    joined : (a b : Option ℕ) → or_other a (or_other b (first_told f more)) ≡ or_other (or_other a b) (first_told f more)
+    joined : (a b : Option A) → or_other a (or_other b (first_told f more)) ≡ or_other (or_other a b) (first_told f more)
     joined (Some n) b = refl
     joined None b = refl
 
-pub told_left : (f : Known → Option ℕ) (ks more : List Known) (n : ℕ) → first_told f ks ≡ Some n → first_told f (ks ++ more) ≡ Some n
+pub told_left : {A : Type 0} (f : Known → Option A) (ks more : List Known) (n : A) → first_told f ks ≡ Some n → first_told f (ks ++ more) ≡ Some n
 told_left f ks more n e = told_append f ks more ∙ ap (λ o. or_other o (first_told f more)) e
 
-pub told_right : (f : Known → Option ℕ) (ks more : List Known) → first_told f ks ≡ None → first_told f (ks ++ more) ≡ first_told f more
+pub told_right : {A : Type 0} (f : Known → Option A) (ks more : List Known) → first_told f ks ≡ None → first_told f (ks ++ more) ≡ first_told f more
 told_right f ks more e = told_append f ks more ∙ ap (λ o. or_other o (first_told f more)) e
 
-pub told_none : (f : Known → Option ℕ) (ks : List Known) → ((k : Known) → Has ks k → f k ≡ None) → first_told f ks ≡ None
+pub told_none : {A : Type 0} (f : Known → Option A) (ks : List Known) → ((k : Known) → Has ks k → f k ≡ None) → first_told f ks ≡ None
 told_none f [] none = refl
 told_none f (k ∷ ks) none = ap (λ o. or_other o (first_told f ks)) (none k (inl refl)) ∙ told_none f ks (λ d h. none d (inr h))
 
@@ -73,6 +74,36 @@ cut_behind n i (Within (place.Child p c) u) l b = absurd b
 cut_behind n i (Apart a c) l b = refl
 cut_behind n i (PartOf p r d) l b = refl
 cut_behind n i (Made s) l b = refl
+
+pub piece_untold : (n i : ℕ) (k : Known) → i < n → IsBehind n k → piece_told i k ≡ None
+piece_untold n i (Within (place.Name a) (place.Child p c)) l b = ap (λ d. cond {A = Option (ℕ × Colour)} d (Some (p, c)) None) (ne_eqb a i (λ e. omega (arith, l, b, e)))
+piece_untold n i (Within (place.Name a) (place.Name c)) l b = refl
+piece_untold n i (Within (place.Child p c) u) l b = absurd b
+piece_untold n i (Apart a c) l b = refl
+piece_untold n i (PartOf p r d) l b = refl
+piece_untold n i (Made s) l b = refl
+
+-- where no partition is told, no part is
+piece_unless : (i : ℕ) (k : Known) → cut_told i k ≡ None → piece_told i k ≡ None
+piece_unless i (Within (place.Name a) (place.Child p c)) e = by (a == i) e
+  where
+    by : (b : Bool) → cond b (Some p) None ≡ None → cond {A = Option (ℕ × Colour)} b (Some (p, c)) None ≡ None
+    by true e = absurd (none-some p (sym e))
+    by false e = refl
+piece_unless i (Within (place.Name a) (place.Name c)) e = refl
+piece_unless i (Within (place.Child p c) u) e = refl
+piece_unless i (Apart a c) e = refl
+piece_unless i (PartOf p r d) e = refl
+piece_unless i (Made s) e = refl
+
+pub piece_none : (i : ℕ) (ks : List Known) → first_told (cut_told i) ks ≡ None → first_told (piece_told i) ks ≡ None
+piece_none i [] e = refl
+piece_none i (k ∷ ks) e = by (cut_told i k) refl (piece_none i ks) e
+  where
+    by : (o : Option ℕ) → cut_told i k ≡ o → (first_told (cut_told i) ks ≡ None → first_told (piece_told i) ks ≡ None) → or_other o (first_told (cut_told i) ks) ≡ None →
+        first_told (piece_told i) (k ∷ ks) ≡ None
+    by (Some n) same rest e = absurd (none-some n (sym e))
+    by None same rest e = ap (λ o. or_other o (first_told (piece_told i) ks)) (piece_unless i k same) ∙ rest e
 
 -- from one place to another
 pub record Grows (s t : Scope) : Type 0 where

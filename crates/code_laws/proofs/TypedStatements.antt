@@ -42,9 +42,10 @@ use Rattle.check_rules.specs.types.KnownTypes.{known_types}
 use Rattle.check_rules.specs.types.Sorts.{may_be, is_partition}
 use Rattle.check_rules.specs.declared.rule.Rule.TheVariants as rule
 use Rattle.check_rules.proofs.Untold.{rule_none}
-use Rattle.code_laws.specs.Simple.{AreAlike, IsInteger, IsScalar, an_integer, scalar_integer, scalar_truth}
-use Rattle.scalar_form.specs.ScalarForm.{is_scalar_if_said}
-use Rattle.code_laws.proofs.LocalValues.{IsValue, value_fitting}
+use Rattle.code_laws.specs.Pointers.{GivesBack, fills_alike, into_plain, zero_index, zero_scalar}
+use Rattle.code_laws.specs.Simple.{IsInteger, IsScalar, an_integer, scalar_integer, scalar_truth}
+use Rattle.local_form.specs.LocalForm.{is_local_result}
+use Rattle.code_laws.proofs.LocalValues.{IsValue, index_goes, value_fitting}
 use Rattle.code_laws.proofs.Typing.{no_way, no_way_back}
 
 pub sum_scalar : (t u : StaticType) → IsInteger t → IsInteger u → IsScalar (arithmetic_type t u)
@@ -147,14 +148,17 @@ counted n None e = absurd (no_way_back e)
 counted n (Some m) e = ap Some (sym (eqb-true n m e))
 
 -- a declared result and what fits it
-pub result_fits : (keeping : Bool) (bs : List Bound) (tree : Tree) (known : List Known) (r : Option TypeTerm) (from : StaticType) → is_scalar_if_said r ≡ true → is_none r ≡ false →
-    IsValue keeping bs from → fits known from (known_result tree r) ≡ true → AreAlike from (result_type tree r)
-result_fits keeping bs tree known None from sc some scalar e = absurd (no_way some)
-result_fits keeping bs tree known (Some (term.Number number.Int32)) from sc some scalar e = value_fitting keeping bs known from (integer_type W32) scalar (scalar_integer W32) e
-result_fits keeping bs tree known (Some (term.Number number.Int64)) from sc some scalar e = value_fitting keeping bs known from (integer_type W64) scalar (scalar_integer W64) e
-result_fits keeping bs tree known (Some (term.Number (number.Index k))) from sc some scalar e = absurd (no_way_back sc)
-result_fits keeping bs tree known (Some term.Truth) from sc some scalar e = value_fitting keeping bs known from truth_type scalar scalar_truth e
-result_fits keeping bs tree known (Some (term.Pointer p)) from sc some scalar e = absurd (no_way_back sc)
-result_fits keeping bs tree known (Some (term.Ispace k)) from sc some scalar e = absurd (no_way_back sc)
-result_fits keeping bs tree known (Some (term.Region k u)) from sc some scalar e = absurd (no_way_back sc)
-result_fits keeping bs tree known (Some (term.Partition d r c)) from sc some scalar e = absurd (no_way_back sc)
+pub result_fits : (keeping : Bool) (bs : List Bound) (tree : Tree) (known : List Known) (r : Option TypeTerm) (from : StaticType) → is_local_result r ≡ true → is_none r ≡ false →
+    IsValue keeping bs from → fits known from (known_result tree r) ≡ true → GivesBack from (result_type tree r)
+result_fits keeping bs tree known None from sc some value e = absurd (no_way some)
+result_fits keeping bs tree known (Some (term.Number number.Int32)) from sc some value e =
+    (into_plain from _ (fills_alike from _ (value_fitting keeping bs known from (integer_type W32) value (scalar_integer W32) e)), zero_scalar _ (scalar_integer W32))
+result_fits keeping bs tree known (Some (term.Number number.Int64)) from sc some value e =
+    (into_plain from _ (fills_alike from _ (value_fitting keeping bs known from (integer_type W64) value (scalar_integer W64) e)), zero_scalar _ (scalar_integer W64))
+result_fits keeping bs tree known (Some (term.Number (number.Index k))) from sc some value e = (index_goes keeping bs known from k value e, zero_index k)
+result_fits keeping bs tree known (Some term.Truth) from sc some value e =
+    (into_plain from _ (fills_alike from _ (value_fitting keeping bs known from truth_type value scalar_truth e)), zero_scalar _ scalar_truth)
+result_fits keeping bs tree known (Some (term.Pointer p)) from sc some value e = absurd (no_way_back sc)
+result_fits keeping bs tree known (Some (term.Ispace k)) from sc some value e = absurd (no_way_back sc)
+result_fits keeping bs tree known (Some (term.Region k u)) from sc some value e = absurd (no_way_back sc)
+result_fits keeping bs tree known (Some (term.Partition d r c)) from sc some value e = absurd (no_way_back sc)

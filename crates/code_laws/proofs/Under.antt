@@ -1,6 +1,6 @@
 -- Regions that began as parts lie within the regions of which the partitions are: where more names come, some go, or one has
 -- another value.
-use Rattle.std.proofs.Common.{◌≡◌, ℕ, ◌<◌, ◌≤◌, List, [], ◌∷◌, ◌++◌, Bool, true, false, Option, Some, None, refl, sym, ap, ◌∙◌, subst, arith}
+use Rattle.std.proofs.Common.{◌≡◌, ℕ, ◌<◌, ◌≤◌, List, [], ◌∷◌, ◌++◌, Bool, true, false, Option, Some, None, refl, sym, ap, ◌∙◌, subst, arith, ◌⊎◌, inl, inr}
 use Rattle.std.specs.Prelude.{bytes_eq, cond, get_or, length, slice_set, take, ◌==◌, ◌||◌}
 use Rattle.std.proofs.lemmas.Bool.{eqb-false, eqb-true, ne_eqb}
 use Rattle.std.proofs.lemmas.List.{get_or-set_other, get_or-set_same, get_or-take}
@@ -11,7 +11,7 @@ use Rattle.regent_tree.specs.Accesses.{space_in}
 use Rattle.regent_tree.specs.Lookup.{is_bound}
 use Rattle.regent_tree.specs.Scopes.{bound_as, bound_to}
 use Rattle.regent_tree.specs.Syntax.{Name}
-use Rattle.regent_tree.specs.Values.{Region, Value, a_region}
+use Rattle.regent_tree.specs.Values.{Region, Value, a_region, Partition, a_partition}
 use Rattle.regent_tree.specs.declared.facts.Term.{Term}
 use Rattle.regent_tree.specs.declared.facts.Term.TheVariants as term
 use Rattle.regent_tree.specs.declared.types.Kind.{Kind}
@@ -29,16 +29,19 @@ use Rattle.std.specs.List.{list_any}
 use Rattle.code_laws.proofs.Pointing.{IsNoRegion, found_below, region_kept}
 use Rattle.std.proofs.lemmas.Option.{none-some}
 use Rattle.code_laws.proofs.Values.{not_true}
+use Rattle.regent_tree.specs.declared.facts.Colour.{Colour}
+use Rattle.regent_tree.specs.declared.facts.Colour.TheVariants.{Constant, Loop, Unknown}
+use Rattle.code_laws.specs.Coloured.{IsBoundIn, IsColour, IsPartOf, point_of}
 
 -- ---- values that are no regions
 
 pub type_under : (takes : Option Taking) (bs : List Bound) (names : List Value) (t : StaticType) (v : Value) → (IsRegion t → ⊥) → IsUnder takes bs names t v
 type_under None bs names t v none = tt
-type_under (Some y) bs names t v none = λ i r q region named behind above is. absurd (none region)
+type_under (Some y) bs names t v none = (λ i r q region named behind above is. absurd (none region), λ i k q region named behind piece is. absurd (none region))
 
 pub value_under : (takes : Option Taking) (bs : List Bound) (names : List Value) (t : StaticType) (v : Value) → IsNoRegion v → IsUnder takes bs names t v
 value_under None bs names t v none = tt
-value_under (Some y) bs names t v none = λ i r q region named behind above is. absurd (none q is)
+value_under (Some y) bs names t v none = (λ i r q region named behind above is. absurd (none q is), λ i k q region named behind piece is. absurd (none q is))
 
 pub none_under : (takes : Option Taking) (bs : List Bound) (names : List Value) → AreOf (λ t v. IsNoRegion v) bs names → AreUnder takes bs names
 none_under takes [] names a = tt
@@ -64,8 +67,10 @@ name_in (term.Child p c) = 0
 pub whole_under : (takes : Option Taking) (bs : List Bound) (names : List Value) (k : Kind) (sp : ℕ) (args : List Reach) (own : ℕ) (v : Value) → BeginsWhole takes own →
     IsUnder takes bs names (region_type k sp args (term.Name own)) v
 whole_under None bs names k sp args own v w = tt
-whole_under (Some y) bs names k sp args own v w =
-    λ i r q region named behind above is. absurd (none-some r (sym w.1 ∙ ap y.above (ap name_in named) ∙ above))
+whole_under (Some y) bs names k sp args own v w = (
+  λ i r q region named behind above is. absurd (none-some r (sym w.1 ∙ ap y.above (ap name_in named) ∙ above)),
+  λ i c q region named behind piece is. absurd (none-some c (sym w.2 ∙ ap y.piece (ap name_in named) ∙ piece)),
+)
 
 -- a value in the place of one that is no region is none, where both are of one type
 pub alike_no_region : (t : StaticType) (old v : Value) → IsOf t old → IsOf t v → IsNoRegion old → IsNoRegion v
@@ -94,33 +99,73 @@ name_stays bs names after r q stay u = record {
   within = u.within;
 }
 
+-- a partition and the variable of a loop have the values that they had
+abbrev pub IsFixed : Bound → Value → Type 0
+IsFixed b v = (b.by_loop ≡ true) ⊎ ((q : Partition) × (v ≡ a_partition q))
+
+abbrev pub FixedStay : List Bound → List Value → List Value → Type 0
+FixedStay bs names after = (b : Bound) → IsBoundIn bs b → IsFixed b (get_or names b.place nothing) → get_or after b.place nothing ≡ get_or names b.place nothing
+
+colour_stays : (bs : List Bound) (names after : List Value) (k : Colour) (c : ℕ) → FixedStay bs names after → IsColour bs names k c → IsColour bs after k c
+colour_stays bs names after (Constant z) c fixed h = h
+colour_stays bs names after (Loop i) c fixed h = record {
+  variable = h.variable;
+  there = h.there;
+  number = h.number;
+  by_loop = h.by_loop;
+  is = ap point_of (fixed h.variable h.there (inl h.by_loop)) ∙ h.is;
+}
+colour_stays bs names after Unknown c fixed h = tt
+
+part_stays : (bs : List Bound) (names after : List Value) (p : ℕ) (k : Colour) (q : Region) → FixedStay bs names after → IsPartOf bs names p k q → IsPartOf bs after p k q
+part_stays bs names after p k q fixed u = record {
+  cut = u.cut;
+  there = u.there;
+  number = u.number;
+  partition = u.partition;
+  has_it = fixed u.cut u.there (inr (u.partition, u.has_it)) ∙ u.has_it;
+  colour = u.colour;
+  is_colour = colour_stays bs names after k u.colour fixed u.is_colour;
+  is = u.is;
+}
+
 under_stays : (takes : Option Taking) (bs : List Bound) (names after : List Value) (t : StaticType) (v w : Value) → RegionsStay (length bs) names after →
-    ((q : Region) → w ≡ a_region q → v ≡ a_region q) → IsUnder takes bs names t v → IsUnder takes bs after t w
-under_stays None bs names after t v w stay same u = tt
-under_stays (Some y) bs names after t v w stay same u =
-    λ i r q region named behind above is. name_stays bs names after r q stay (u i r q region named behind above (same q is))
+    FixedStay bs names after → ((q : Region) → w ≡ a_region q → v ≡ a_region q) → IsUnder takes bs names t v → IsUnder takes bs after t w
+under_stays None bs names after t v w stay fixed same u = tt
+under_stays (Some y) bs names after t v w stay fixed same u = (
+  λ i r q region named behind above is. name_stays bs names after r q stay (u.0 i r q region named behind above (same q is)),
+  λ i k q region named behind piece is. part_stays bs names after k.0 k.1 q fixed (u.1 i k q region named behind piece (same q is)),
+)
 
 -- where the regions below a place are the same
 under_same : (takes : Option Taking) (bs : List Bound) (names after : List Value) (n : ℕ) → length bs ≤ n → RegionsStay n names after → RegionsStay n after names →
-    AreOf IsOf bs names → AreUnder takes bs names → AreUnder takes bs after
-under_same takes [] names after n l stay same o u = tt
-under_same takes (b ∷ bs) names after n l stay same o u = (
+    FixedStay bs names after → AreOf IsOf bs names → AreUnder takes bs names → AreUnder takes bs after
+under_same takes [] names after n l stay same fixed o u = tt
+under_same takes (b ∷ bs) names after n l stay same fixed o u = (
   under_stays takes bs names after b.static_type (get_or names b.place nothing) (get_or after b.place nothing)
-      (λ p q low e. stay p q (omega (arith, low, l)) e) (λ q e. same b.place q (omega (arith, o.0, l)) e) u.0,
-  under_same takes bs names after n (omega (arith, l)) stay same o.2 u.1,
+      (λ p q low e. stay p q (omega (arith, low, l)) e) (λ c h f. fixed c (inr h) f) (λ q e. same b.place q (omega (arith, o.0, l)) e) u.0,
+  under_same takes bs names after n (omega (arith, l)) stay same (λ c h f. fixed c (inr h) f) o.2 u.1,
 )
+
+-- each name has its place below those that come
+pub place_below : (bs : List Bound) (names : List Value) (b : Bound) → AreOf IsOf bs names → IsBoundIn bs b → b.place < length bs
+place_below [] names b o h = absurd h
+place_below (c ∷ bs) names b o (inl e) = subst (λ (b : Bound). b.place < length (c ∷ bs)) e (omega (arith, o.0))
+place_below (c ∷ bs) names b o (inr h) = let l = place_below bs names b o.2 h in omega (arith, l)
 
 -- one more name
 pub under_more : (takes : Option Taking) (b : Bound) (bs : List Bound) (names : List Value) (v : Value) → length names ≡ length bs → b.place ≡ length bs →
     AreOf IsOf bs names → IsUnder takes bs names b.static_type v → AreUnder takes bs names → AreUnder takes (b ∷ bs) (names ++ v ∷ [])
 under_more takes b bs names v long place o u us =
     let last : get_or (names ++ v ∷ []) b.place nothing ≡ v =
-    ap (λ k. get_or (names ++ v ∷ []) k nothing) (place ∙ sym long) ∙ get_or-append_seam names v [] nothing in (
+    ap (λ k. get_or (names ++ v ∷ []) k nothing) (place ∙ sym long) ∙ get_or-append_seam names v [] nothing in
+    let fixed : FixedStay bs names (names ++ v ∷ []) =
+    λ c h f. let low = place_below bs names c o h in get_or-append names (v ∷ []) nothing c.place (omega (arith, low, long)) in (
       under_stays takes bs names (names ++ v ∷ []) b.static_type v (get_or (names ++ v ∷ []) b.place nothing)
-          (λ k q low e. get_or-append names (v ∷ []) nothing k (omega (arith, low, long)) ∙ e) (λ q e. sym last ∙ e) u,
+          (λ k q low e. get_or-append names (v ∷ []) nothing k (omega (arith, low, long)) ∙ e) fixed (λ q e. sym last ∙ e) u,
       under_same takes bs names (names ++ v ∷ []) (length bs) (omega arith)
           (λ k q low e. get_or-append names (v ∷ []) nothing k (omega (arith, low, long)) ∙ e)
-          (λ k q low e. sym (get_or-append names (v ∷ []) nothing k (omega (arith, low, long))) ∙ e) o us,
+          (λ k q low e. sym (get_or-append names (v ∷ []) nothing k (omega (arith, low, long))) ∙ e) fixed o us,
     )
 
 -- fewer names
@@ -131,13 +176,16 @@ under_fewer takes (b ∷ more) bs names u = under_fewer takes more bs names u.1
 pub under_cut : (takes : Option Taking) (bs : List Bound) (names : List Value) (n : ℕ) → length bs ≤ n → AreOf IsOf bs names → AreUnder takes bs names →
     AreUnder takes bs (take n names)
 under_cut takes bs names n l o u =
-    under_same takes bs names (take n names) n l (λ k q low e. get_or-take n names k nothing low ∙ e) (λ k q low e. sym (get_or-take n names k nothing low) ∙ e) o u
+    under_same takes bs names (take n names) n l (λ k q low e. get_or-take n names k nothing low ∙ e) (λ k q low e. sym (get_or-take n names k nothing low) ∙ e)
+    (λ c h f. let low = place_below bs names c o h in get_or-take n names c.place nothing (omega (arith, low, l))) o u
 
 -- another value in the place of one, where neither is a region
 pub under_set : (takes : Option Taking) (bs : List Bound) (names : List Value) (k : ℕ) (v : Value) → k < length names →
-    IsNoRegion (get_or names k nothing) → IsNoRegion v → AreOf IsOf bs names → AreUnder takes bs names → AreUnder takes bs (slice_set names k v)
-under_set takes bs names k v room none new o u =
-    under_same takes bs names (slice_set names k v) (length bs) (omega arith) (λ p q low e. region_kept names k v none p q e) (λ p q low e. back p q e) o u
+    IsNoRegion (get_or names k nothing) → IsNoRegion v → ((b : Bound) → IsBoundIn bs b → IsFixed b (get_or names b.place nothing) → b.place ≡ k → ⊥) →
+    AreOf IsOf bs names → AreUnder takes bs names → AreUnder takes bs (slice_set names k v)
+under_set takes bs names k v room none new other o u =
+    under_same takes bs names (slice_set names k v) (length bs) (omega arith) (λ p q low e. region_kept names k v none p q e) (λ p q low e. back p q e)
+    (λ c h f. get_or-set_other names k c.place v nothing (λ d. other c h f (omega (arith, d)))) o u
   where
     back : (p : ℕ) (q : Region) → get_or (slice_set names k v) p nothing ≡ a_region q → get_or names p nothing ≡ a_region q
     back p q e = by (k == p) refl
@@ -168,10 +216,30 @@ name_wider b bs names r q f u =
           u.named,
         )
 
+part_wider : (b : Bound) (bs : List Bound) (names : List Value) (p : ℕ) (k : Colour) (q : Region) → IsPartOf bs names p k q → IsPartOf (b ∷ bs) names p k q
+part_wider b bs names p k q u = record {
+  cut = u.cut;
+  there = inr u.there;
+  number = u.number;
+  partition = u.partition;
+  has_it = u.has_it;
+  colour = u.colour;
+  is_colour = wider k u.is_colour;
+  is = u.is;
+}
+  where
+    wider : (k : Colour) → IsColour bs names k u.colour → IsColour (b ∷ bs) names k u.colour
+    wider (Constant z) h = h
+    wider (Loop i) h = record { variable = h.variable; there = inr h.there; number = h.number; by_loop = h.by_loop; is = h.is }
+    wider Unknown h = tt
+
 under_wider : (takes : Option Taking) (b : Bound) (bs : List Bound) (names : List Value) (t : StaticType) (v : Value) → Falls b.number bs →
     IsUnder takes bs names t v → IsUnder takes (b ∷ bs) names t v
 under_wider None b bs names t v f u = tt
-under_wider (Some y) b bs names t v f u = λ i r q region named behind above is. name_wider b bs names r q f (u i r q region named behind above is)
+under_wider (Some y) b bs names t v f u = (
+  λ i r q region named behind above is. name_wider b bs names r q f (u.0 i r q region named behind above is),
+  λ i k q region named behind piece is. part_wider b bs names k.0 k.1 q (u.1 i k q region named behind piece is),
+)
 
 -- among all names in scope
 pub under_named : (takes : Option Taking) (next : ℕ) (bs : List Bound) (names : List Value) (n : Name) → Falls next bs → AreUnder takes bs names →
@@ -229,6 +297,6 @@ pub lies_up : (y : Taking) (next : ℕ) (bs : List Bound) (names : List Value) �
     (q : Region) → IsOfNumber bs names i q → (p : Region) × IsOfNumber bs names j p × IsSubregion q p
 lies_up y next bs names f u i _ (up_itself _) q is = (q, is, sub_itself q)
 lies_up y next bs names f u i j (up_part _ r _ behind above up) q is =
-    let n = under_numbered (Some y) next bs names i f u is.is.region i r q is.is.region is.named behind above is.is.value in
+    let n = (under_numbered (Some y) next bs names i f u is.is.region).0 i r q is.is.region is.named behind above is.is.value in
     let more = lies_up y next bs names f u r j up n.whole (record { is = n.is; named = n.named }) in
     (more.0, more.1, sub_through q n.whole more.0 n.within more.2)

@@ -12,7 +12,7 @@ use Rattle.code_laws.specs.Pointers.{AreCompared, Assigned, Begins, BeginsAs, Be
 use Rattle.code_laws.specs.Simple.{IsNumber, IsSimple, IsSpace, number_index, number_integer, scalar_integer, scalar_truth, simple_index, simple_integer, simple_space, simple_truth, two_integers, two_truths}
 use Rattle.regent_tree.specs.Syntax.{Expression}
 use Rattle.code_rules.specs.Slots.{typed}
-use Rattle.code_laws.specs.Typed.{IsAnyField, IsBegun, IsDifference, IsFieldOf, IsKeepable, IsNamedRegion, IsPointing, LoopsOver, IsLooped, LoopsOverPart}
+use Rattle.code_laws.specs.Typed.{IsAnyField, IsBegun, IsDifference, IsFieldOf, IsKeepable, IsNamedRegion, IsPointing, LoopsOver, IsLooped, IsSaid, LoopsOverPart}
 use Rattle.code_laws.proofs.Values.{not_true}
 
 pub counting : (b : Bool) (t : StaticType) → CountsAs b t → IsCounting t
@@ -77,6 +77,18 @@ begun_so true w e B Part p = inl p
 pub begun_apart : (b : Bool) (w : Where) (e : Expression) (B Part : Type 0) → b ≡ true → IsDifference w e ⊎ Part → IsBegun b w e B Part
 begun_apart false w e B Part q d = absurd (not_true q)
 begun_apart true w e B Part q d = inr d
+
+pub said_plainly : (b : Bool) (w : Where) (e : Expression) (B Like : Type 0) → B → IsSaid b w e B Like
+said_plainly false w e B Like p = p
+said_plainly true w e B Like p = inl p
+
+pub said_apart : (b : Bool) (w : Where) (e : Expression) (B Like : Type 0) → b ≡ true → IsDifference w e × Like → IsSaid b w e B Like
+said_apart false w e B Like q d = absurd (not_true q)
+said_apart true w e B Like q d = inr d
+
+pub said_either : (b : Bool) (w : Where) (e : Expression) (B Like : Type 0) → IsSaid b w e B Like → B ⊎ (IsDifference w e × Like)
+said_either false w e B Like p = inl p
+said_either true w e B Like p = p
 
 pub loops_over : (b : Bool) (w : Where) (e : Expression) → LoopsOver b w e → IsSpace (typed w e) ⊎ IsNamedRegion w e
 loops_over false w e p = inl p

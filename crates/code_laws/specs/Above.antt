@@ -1,15 +1,16 @@
 -- Which regions began as parts, read from what is told of regions.
 use Rattle.std.specs.Prelude.{ℕ, List, [], ◌∷◌, Option, Some, None, cond, ◌==◌}
+use Rattle.regent_tree.specs.declared.facts.Colour.{Colour}
 use Rattle.regent_tree.specs.declared.facts.Known.{Known}
 use Rattle.regent_tree.specs.declared.facts.Known.TheVariants.{Apart, Made, PartOf, Within}
 use Rattle.regent_tree.specs.declared.facts.Term.TheVariants as term
 
-abbrev pub or_other : Option ℕ → Option ℕ → Option ℕ
+abbrev pub or_other : {A : Type 0} → Option A → Option A → Option A
 or_other (Some n) o = Some n
 or_other None o = o
 
 -- what the first fact tells that tells something
-abbrev pub first_told : (Known → Option ℕ) → List Known → Option ℕ
+abbrev pub first_told : {A : Type 0} → (Known → Option A) → List Known → Option A
 first_told tells [] = None
 first_told tells (k ∷ ks) = or_other (tells k) (first_told tells ks)
 
@@ -21,6 +22,18 @@ cut_told i (Within (term.Child q c) b) = None
 cut_told i (Apart a b) = None
 cut_told i (PartOf p r d) = None
 cut_told i (Made s) = None
+
+-- that partition, with the colour
+abbrev pub piece_told : ℕ → Known → Option (ℕ × Colour)
+piece_told i (Within (term.Name a) (term.Child p c)) = cond (a == i) (Some (p, c)) None
+piece_told i (Within (term.Name a) (term.Name b)) = None
+piece_told i (Within (term.Child q c) b) = None
+piece_told i (Apart a b) = None
+piece_told i (PartOf p r d) = None
+piece_told i (Made s) = None
+
+abbrev pub piece_in : List Known → ℕ → Option (ℕ × Colour)
+piece_in ks i = first_told (piece_told i) ks
 
 -- the region of which a partition with a number is
 abbrev pub whole_told : ℕ → Known → Option ℕ

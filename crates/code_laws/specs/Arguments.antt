@@ -1,6 +1,6 @@
 -- What stands as an argument of a call where regions are handed over: a name that has a region, or a part of a partition
 -- that has a name. What the called task needs of it may be done with it, and its constraints hold of it.
-use Rattle.std.specs.Prelude.{◌≡◌, ◌⊎◌, Bool, ℕ, zero, suc, Option, ◌<◌, ◌≤◌, ℤ, length, List, [], ◌∷◌, true, false, Some, None}
+use Rattle.std.specs.Prelude.{◌≡◌, ◌⊎◌, Bool, ℕ, zero, suc, Option, ◌<◌, ◌≤◌, ℤ, length, List, [], ◌∷◌, true, false, not, Some, None}
 use Rattle.check_laws.specs.SoundScopes.{Falls}
 use Rattle.lane_kernels.specs.declared.numbers.Width.{Width}
 use Rattle.regent_tree.specs.Accesses.{space_in}
@@ -8,7 +8,8 @@ use Rattle.regent_tree.specs.Lookup.{is_bound}
 use Rattle.regent_tree.specs.Scopes.{bound_as}
 use Rattle.regent_tree.specs.StaticTypes.{space_at}
 use Rattle.regent_tree.specs.Syntax.{Expression, Expressions, Name, access_expr, an_expr, at_step, no_expr, no_step, number_expr}
-use Rattle.regent_tree.specs.Typing.{parent_of}
+use Rattle.regent_tree.specs.Facts.{is_unknown}
+use Rattle.regent_tree.specs.Typing.{colour_of, parent_of}
 use Rattle.regent_tree.specs.declared.facts.Term.{Term}
 use Rattle.regent_tree.specs.declared.facts.Term.TheVariants as term
 use Rattle.regent_tree.specs.declared.typing.Bound.{Bound}
@@ -174,11 +175,30 @@ IsPartBelow y w (Some p) (Some n) o = IsCutName w p.0 × IsParent w n
 IsPartBelow y w (Some p) None (Some q) = IsCutName w p.0 × (p.0 ≡ q.0) × AreOneColour p.1 q.1
 IsPartBelow y w _ _ _ = ⊥
 
+-- the region with a number lies within a part: it began as that one, or as a part of what lies within that
+pub record LandsIn (y : Taking) (w : Where) (i : ℕ) (q : Name × Expression) : Type 0 where
+  pub cut : IsCutName w q.0
+  pub upper : ℕ
+  pub up : LiesUp y i upper
+  pub behind : y.params ≤ upper
+  pub piece : y.piece upper ≡ Some ((bound w q.0).number, colour_of w.scope q.1)
+  pub certain : not (is_unknown (colour_of w.scope q.1)) ≡ true
+
+-- so does one that has a name, and a part of what does
+abbrev pub IsPieceBelow : Taking → Where → Option Name → Option (Name × Expression) → Option (Name × Expression) → Type 0
+IsPieceBelow y w (Some m) o (Some q) = IsParent w m × (term_in (bound w m).static_type ≡ term.Name (bound w m).number)
+    × LandsIn y w (bound w m).number q
+IsPieceBelow y w None (Some p) (Some q) = IsCutName w p.0
+    × (term_in (parent_bound w p.0).static_type ≡ term.Name (parent_of (bound w p.0).static_type))
+    × LandsIn y w (parent_of (bound w p.0).static_type) q
+IsPieceBelow y w _ _ _ = ⊥
+
 -- by the arguments, where partitions are kept or not
 abbrev pub IsPartedAt : Bool → Taking → Where → Expressions → ℕ × ℕ → Type 0
 IsPartedAt false y w args p = IsParted y w (name_at args p.0) (name_at args p.1)
 IsPartedAt true y w args p =
-    IsParted y w (name_at args p.0) (name_at args p.1) ⊎ IsPartBelow y w (part_at args p.0) (name_at args p.1) (part_at args p.1)
+    IsParted y w (name_at args p.0) (name_at args p.1)
+    ⊎ (IsPartBelow y w (part_at args p.0) (name_at args p.1) (part_at args p.1) ⊎ IsPieceBelow y w (name_at args p.0) (part_at args p.0) (part_at args p.1))
 
 -- the called task's constraints hold of the regions that are handed over
 abbrev pub AreParted : Bool → Option Taking → Where → Expressions → List (ℕ × ℕ) → Type 0

@@ -11,7 +11,7 @@ use Rattle.code_rules.specs.Programs.{body_piece, place_of, task_code}
 use Rattle.code_laws.specs.LocalPrograms.{EndsWell}
 use Rattle.code_laws.specs.Programs.{IsGiven, IsTypedRun, RunsAsMeant}
 use Rattle.code_laws.specs.Steps.{Forms, Taking}
-use Rattle.code_laws.specs.Above.{above_in}
+use Rattle.code_laws.specs.Above.{above_in, piece_in}
 use Rattle.code_laws.specs.Taking.{pairs_in}
 use Rattle.code_laws.specs.Typed.{IsTypedBlock}
 
@@ -26,6 +26,7 @@ taking_of tree t = record {
   needs = (task_code tree t).needs;
   within = pairs_in (scope_of tree t).known;
   above = above_in (told_in tree t);
+  piece = piece_in (told_in tree t);
 }
 
 -- whether regions are handed over; a task may do with those that it takes what it declares, by its constraints
@@ -37,7 +38,7 @@ takes_by true tree t = Some (taking_of tree t)
 abbrev pub forms_by : Bool → Bool → Tree → TaskTree → Forms
 forms_by handing keeping tree t = record { makes = true; calls = true; takes = takes_by handing tree t; keeps = keeping }
 
--- a task gives a number or truth, or nothing, is typed and not too long
+-- a task gives a number, a truth or an index, or nothing, is typed and not too long
 pub record IsTypedBy (handing keeping : Bool) (tree : Tree) (t : TaskTree) : Type 0 where
   pub given : IsGiven (result_type tree t.result)
   pub typed : IsTypedBlock (forms_by handing keeping tree t) (place_of tree t) t.body

@@ -3,6 +3,7 @@ pub mod Simple
 pub mod Above
 pub mod Taking
 pub mod Pointers
+pub mod Coloured
 pub mod Standing
 pub mod Arguments
 pub mod Counting
@@ -12,6 +13,8 @@ pub mod Handing
 pub mod ScalarPrograms
 pub mod LocalPrograms
 pub mod LocalExample
+pub mod GivenExample
+pub mod MinusExample
 pub mod Example
 pub mod RegionExample
 pub mod PointerExample

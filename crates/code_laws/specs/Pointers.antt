@@ -59,10 +59,14 @@ pub data GoesInto : StaticType → StaticType → Type 0 where
   into_index : (k : Kind) (sp : ℕ) (args rs : List Reach) (j : Kind) → GoesInto (pointer_type k sp args rs) (index_type j)
   into_space : (j k : Kind) → GoesInto (ispace_type j) (ispace_type k)
 
--- a variable's type that has a value by itself: 0, or false
+-- a variable's or a result's type that has a value by itself: 0, or false
 pub data HasZero : StaticType → Type 0 where
   zero_scalar : (t : StaticType) → IsScalar t → HasZero t
   zero_index : (k : Kind) → HasZero (index_type k)
+
+-- what a task gives back goes into its result's type, which is such
+abbrev pub GivesBack : StaticType → StaticType → Type 0
+GivesBack t u = GoesInto t u × HasZero u
 
 -- the numbers of a field of a kind, whose pointers go into so many regions, are values of a type
 pub data KeepsAs : FieldKind → ℕ → StaticType → Type 0 where

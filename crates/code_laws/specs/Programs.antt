@@ -7,6 +7,7 @@ use Rattle.regent_tree.specs.Typing.{param_types, result_type}
 use Rattle.regent_tree.specs.Values.{Value}
 use Rattle.regent_tree.specs.declared.outcome.Ending.{Ending}
 use Rattle.regent_tree.specs.declared.outcome.Ending.TheVariants.{Finished, Faulted, Broken}
+use Rattle.regent_tree.specs.declared.types.Kind.{Kind}
 use Rattle.regent_tree.specs.declared.typing.StaticType.{StaticType}
 use Rattle.task_code.specs.declared.job.Job.{Job}
 use Rattle.machine_terms.specs.Jobs.{order_run}
@@ -15,7 +16,7 @@ use Rattle.code_rules.specs.Instructions.{place_of_task, tasks_of}
 use Rattle.code_rules.specs.Pieces.{lines}
 use Rattle.code_rules.specs.Programs.{body_piece, code_of, place_of, task_code}
 use Rattle.code_laws.specs.Simple.{IsScalar}
-use Rattle.regent_tree.specs.declared.typing.StaticType.TheVariants.{Nothing as no_type}
+use Rattle.regent_tree.specs.declared.typing.StaticType.TheVariants.{Index as index_type, Nothing as no_type}
 use Rattle.code_laws.specs.Typed.{IsTypedBlock}
 use Rattle.code_laws.specs.Standing.{AreTaken, IsOf}
 use Rattle.code_laws.specs.Steps.{Forms, Setting}
@@ -94,9 +95,10 @@ RegionsRunAsMeant = (tree : Tree) (inputs : List ℤ) (turns : ℕ) → IsTypedR
 abbrev pub PointersRunAsMeant : Type 0
 PointersRunAsMeant = (tree : Tree) (inputs : List ℤ) (turns : ℕ) → IsTypedRun pointer_forms tree inputs → RunsAsMeant tree inputs turns
 
--- a result of numbers or truths, or none
+-- a result of numbers, truths or indices, or none
 pub data IsGiven : StaticType → Type 0 where
   gives_scalar : (t : StaticType) → IsScalar t → IsGiven t
+  gives_index : (k : Kind) → IsGiven (index_type k)
   gives_nothing : IsGiven no_type
 
 -- Each task of the program gives such a result, is typed and not too long. Its body has these forms.

@@ -34,8 +34,8 @@ use Rattle.machine_terms.specs.Jumps.{fetch}
 use Rattle.machine_terms.specs.Makes.{region_with}
 use Rattle.machine_terms.specs.Orders.{begun, result_of}
 use Rattle.value_laws.specs.Shapes.{IsPosition, KeepsNumbers}
-use Rattle.code_laws.specs.Pointers.{ArePointed, IsCutIn, IsOfName, AllGoToParams}
-use Rattle.code_laws.specs.Simple.{IsRegion, IsScalar, IsSimple, term_in}
+use Rattle.code_laws.specs.Pointers.{ArePointed, HasZero, IsCutIn, IsOfName, AllGoToParams}
+use Rattle.code_laws.specs.Simple.{IsRegion, IsSimple, term_in}
 use Rattle.code_rules.specs.Instructions.{place_of_task, tasks_of}
 use Rattle.machine_terms.specs.Opening.{opening, requirements_on}
 use Rattle.region_tree.specs.Requirements.{Requirement}
@@ -57,6 +57,7 @@ use Rattle.memory_laws.specs.Covering.{AreCovered}
 use Rattle.memory_laws.specs.Memory.{Holds, Memory, StandFor, memory_of}
 use Rattle.memory_laws.specs.Places.{number_at, numbers}
 use Rattle.run_report.specs.Dumps.{is_of_space}
+use Rattle.code_laws.specs.Coloured.{IsPieced}
 use Rattle.code_laws.specs.Steps.{Setting, Taking, placed, Leads, Ends}
 use Rattle.code_laws.specs.Taking.{AreParts, IsHad, IsSubregion, given_region, is_asked, needs_taken, pairs_in, pairs_taken}
 
@@ -216,9 +217,9 @@ pub record Takes (takes : Option Taking) (code : Code) (tree : Tree) (task : Nam
   pub needs : List Requirement
   pub required : requirements_on code c (task_code tree (task_named tree task)).needs (map (machine_value c) vs) ≡ Some needs
 
--- the value that a task gives is of its result's type, where that is a number's or a truth's
+-- the value that a task gives is of its result's type, where that is a number's, a truth's or an index's
 abbrev pub Returns : Tree → Name → Value → Type 0
-Returns tree task v = IsScalar (result_type tree (task_named tree task).result) →
+Returns tree task v = HasZero (result_type tree (task_named tree task).result) →
     IsOf (result_type tree (task_named tree task).result) v
 
 -- Both come back, with a value and what stands for the store with the call's own roots behind, which keeps numbers of its
@@ -290,11 +291,14 @@ pub record IsUnderName (bs : List Bound) (names : List Value) (r : ℕ) (q : Reg
   pub named : term_in (bound_as bs r).static_type ≡ term.Name r
   pub within : IsSubregion q whole
 
--- a value that is a region which began as a part lies within such
+abbrev pub IsWithinName : Taking → List Bound → List Value → StaticType → Value → Type 0
+IsWithinName y bs names t v = (i r : ℕ) (q : Region) → IsRegion t → term_in t ≡ term.Name i → y.params ≤ i → y.above i ≡ Some r →
+    v ≡ a_region q → IsUnderName bs names r q
+
+-- a value that is a region which began as a part lies within such, and is that part
 abbrev pub IsUnder : Option Taking → List Bound → List Value → StaticType → Value → Type 0
 IsUnder None bs names t v = Unit {0}
-IsUnder (Some y) bs names t v = (i r : ℕ) (q : Region) → IsRegion t → term_in t ≡ term.Name i → y.params ≤ i → y.above i ≡ Some r →
-    v ≡ a_region q → IsUnderName bs names r q
+IsUnder (Some y) bs names t v = IsWithinName y bs names t v × IsPieced y bs names t v
 
 -- so does each name's value
 abbrev pub AreUnder : Option Taking → List Bound → List Value → Type 0
@@ -304,7 +308,7 @@ AreUnder takes (b ∷ bs) names = IsUnder takes bs names b.static_type (get_or n
 -- An instance agrees with a state: the names stand in their slots, the turns and the text are alike,
 -- and what it has of the roots stands for the store. The slots beside those of names that were in scope
 -- when the innermost loop's round began are as they were then, and so are the regions that these names had. Beside a
--- pointer into a part stands the part. A region that began as a part lies within the region of which the partition is.
+-- pointer into a part stands the part. A region that began as a part lies within the region of which the partition is, and is that part.
 pub record Agrees (x : Setting) (params slots : ℕ) (o : Aside) (h : Here) (s : State) (i : Instance) : Type 0 where
   pub names : (p : ℕ) → p < length s.names →
       get_or i.frame.slots (slot (where_of params h) p) blank
@@ -360,5 +364,5 @@ Does x params slots o i pc h (gives (returned v) s) =
     (result : Option ℤ) × (j : Instance) × Ends x i (back result j)
     × (result_of result ≡ kept_number v) × (j.text ≡ s.text) × Holds x.code s.store (memory_of j)
     × IsFramed x s.store j.frame.own (memory_of j)
-    × (x.forms.calls ≡ true → IsScalar x.result → IsOf x.result v)
+    × (x.forms.calls ≡ true → HasZero x.result → IsOf x.result v)
 Does x params slots o i pc h (fails f s) = Ends x i (Broke (Some f) s.text)

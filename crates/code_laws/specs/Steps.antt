@@ -4,6 +4,7 @@ use Rattle.std.specs.Prelude.{◌≡◌, Bool, false, ℕ, zero, suc, ◌+◌, L
 use Rattle.region_tree.specs.declared.tree.RootId.{RootId}
 use Rattle.regent_tree.specs.Syntax.{Tree}
 use Rattle.regent_tree.specs.Values.{Value as Meant}
+use Rattle.regent_tree.specs.declared.facts.Colour.{Colour}
 use Rattle.regent_tree.specs.declared.typing.StaticType.{StaticType}
 use Rattle.task_code.specs.declared.code.Code.{Code}
 use Rattle.task_code.specs.declared.code.Line.{Line}
@@ -19,12 +20,14 @@ use Rattle.machine_terms.specs.Orders.{Runner, resume_in, until_over}
 use Rattle.machine_terms.specs.Segments.{frame_after, step}
 
 -- a task that may have regions among its parameters: how many parameters there are, what it needs of them, which
--- of them have regions that lie within those of which others, and within which region one with a number begins as a part
+-- of them have regions that lie within those of which others, within which region one with a number begins as a part, and
+-- as which part: of which partition, and of which colour
 pub record Taking : Type 0 where
   pub params : ℕ
   pub needs : List NeedCode
   pub within : List (ℕ × ℕ)
   pub above : ℕ → Option ℕ
+  pub piece : ℕ → Option (ℕ × Colour)
 
 -- which forms a body may have beside those of numbers and truths: roots that are made, calls, regions that are
 -- handed over, and pointers that are kept, with loops over regions and indices in variables and fields

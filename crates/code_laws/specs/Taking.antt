@@ -9,6 +9,7 @@ use Rattle.region_tree.specs.Requirements.{same_mode}
 use Rattle.regent_tree.specs.Store.{Touch}
 use Rattle.regent_tree.specs.Values.{Region, Value, a_truth, region_of}
 use Rattle.regent_tree.specs.Facts.{is_subregion}
+use Rattle.regent_tree.specs.declared.facts.Colour.{Colour}
 use Rattle.regent_tree.specs.declared.facts.Known.{Known}
 use Rattle.regent_tree.specs.declared.facts.Known.TheVariants.{Within}
 use Rattle.regent_tree.specs.declared.facts.Term.{Term}
@@ -86,6 +87,11 @@ IsFresh None r = Unit {0}
 IsFresh (Some y) (term.Name i) = y.params ≤ i
 IsFresh (Some y) (term.Child p c) = ⊥
 
+-- what is assigned is no loop's variable, where that may stand for the colour of a part as which a region began
+abbrev pub MayChange : Option Taking → Bool → Type 0
+MayChange None by_loop = Unit {0}
+MayChange (Some y) by_loop = by_loop ≡ false
+
 -- how a variable begins, by its number: as a part of a region with another number, or as none
 abbrev pub BeginsWithin : Option Taking → ℕ → ℕ → Type 0
 BeginsWithin None own r = Unit {0}
@@ -93,7 +99,12 @@ BeginsWithin (Some y) own r = (y.params ≤ own) × (y.above own ≡ Some r)
 
 abbrev pub BeginsWhole : Option Taking → ℕ → Type 0
 BeginsWhole None own = Unit {0}
-BeginsWhole (Some y) own = (y.params ≤ own) × (y.above own ≡ None)
+BeginsWhole (Some y) own = (y.params ≤ own) × (y.above own ≡ None) × (y.piece own ≡ None)
+
+-- and as which part
+abbrev pub BeginsAt : Option Taking → ℕ → ℕ → Colour → Type 0
+BeginsAt None own p c = Unit {0}
+BeginsAt (Some y) own p c = y.piece own ≡ Some (p, c)
 
 -- a region lies within that of a parameter, and is that one where the parameter names it
 pub record IsGivenAs (args : List Value) (y : Taking) (r : Term) (q : Region) : Type 0 where

@@ -18,14 +18,14 @@ use Rattle.regent_tree.specs.Lookup.{is_bound}
 use Rattle.regent_tree.specs.Execution.{before_last, last_field}
 use Rattle.regent_tree.specs.Syntax.{a_statement, Form, var_form, if_form, while_form, for_in_form, for_to_form, do_form, assert_form, print_form, assign_form, return_form, Block, no_statement, then_statement, Arms, no_arm, an_arm, Otherwise, no_else, else_block, both_initializer, by_field_initializer, either_initializer, equal_initializer, image_initializer, preimage_initializer, plain_initializer, region_initializer, Name, Tree, fill_form, call_form, call_expr, Expression, number_expr, truth_expr, chain_expr, prefix_expr, access_expr, convert_expr, Expressions, no_expr, an_expr, Links, no_link, a_link, Steps, no_step, field_step, at_step, space_expr, is_null_expr, null_expr, cast_expr, Initializer}
 use Rattle.regent_tree.specs.Scopes.{bound_as, scope_of}
-use Rattle.regent_tree.specs.Typing.{arithmetic_type, has_wild, initializer_type, is_disjoint, operated, param_types, params_at, parent_of, reaches_of, result_type, taken_from, type_of_element, type_of_field, var_type}
+use Rattle.regent_tree.specs.Typing.{arithmetic_type, colour_of, has_wild, initializer_type, is_disjoint, operated, param_types, params_at, parent_of, reaches_of, result_type, taken_from, type_of_element, type_of_field, var_type}
 use Rattle.code_laws.specs.Arguments.{AreDivided, AreMet, ArePaired, AreParted, IsCutName, IsHanded, IsHandedPart, IsParent, LiesBelow, parent_bound}
-use Rattle.code_laws.specs.Pointers.{AreThere, Assigned, BeginsAs, BeginsWith, ConvertsTo, CountsAs, FieldKeeps, FillsInto, IsAssigned, IsCompared, IsCounting, IsLike, IsPointer, IsRead, IsWritten, PassesInto, SignedAs, AllGoToParams}
-use Rattle.code_laws.specs.Simple.{IsInteger, IsTruth, IsScalar, IsSimple, IsSpace, IsRegion, AreAlike, FieldFits, term_in}
+use Rattle.code_laws.specs.Pointers.{AreThere, Assigned, BeginsAs, BeginsWith, ConvertsTo, CountsAs, FieldKeeps, FillsInto, GivesBack, HasZero, IsAssigned, IsCompared, IsCounting, IsLike, IsPointer, IsRead, IsWritten, PassesInto, SignedAs, AllGoToParams}
+use Rattle.code_laws.specs.Simple.{IsInteger, IsTruth, IsSimple, IsSpace, IsRegion, FieldFits, term_in}
 use Rattle.code_rules.specs.Instructions.{place_of_task, tasks_of}
 use Rattle.code_rules.specs.Programs.{task_code}
 use Rattle.code_laws.specs.Steps.{Forms, Taking}
-use Rattle.code_laws.specs.Taking.{BeginsWhole, BeginsWithin, MayDo, pairs_in}
+use Rattle.code_laws.specs.Taking.{BeginsAt, BeginsWhole, BeginsWithin, MayChange, MayDo, pairs_in}
 use Rattle.code_rules.specs.Slots.{Where, typed, bound, slot_named, slots_of}
 use Rattle.code_rules.specs.Expressions.{count}
 use Rattle.code_rules.specs.Statements.{on_line, after_form, after_arm, after_arms, looping}
@@ -92,8 +92,7 @@ LoopsOver true w e = IsSpace (typed w e) ⊎ IsNamedRegion w e
 
 -- a name has a partition of its own number
 abbrev pub IsOwnCut : Where → Name → Type 0
-IsOwnCut w n = (bound w n).static_type
-    ≡ partition_type (is_disjoint (bound w n).static_type) (parent_of (bound w n).static_type) (bound w n).number
+IsOwnCut w n = (bound w n).static_type ≡ partition_type (is_disjoint (bound w n).static_type) (parent_of (bound w n).static_type) (bound w n).number
 
 -- or a part of a partition that has a name, of whose colour something holds
 abbrev pub LoopsOverPart : Where → Expression → Type 0 → Type 0
@@ -126,8 +125,7 @@ IsPointing w (null_expr t) = Unit {0}
 IsPointing w (cast_expr t e) = Unit {0}
 IsPointing w e = ⊥
 
--- how a variable begins: as a number, a truth or an index space, and where pointers are kept as one of these or such
--- a pointer
+-- how a variable begins: as a number, a truth or an index space, or where pointers are kept as such a pointer
 abbrev pub IsKeepable : Bool → Where → Expression → Type 0
 IsKeepable false w e = IsSimple (typed w e)
 IsKeepable true w e = IsSimple (typed w e) ⊎ (IsPointer (typed w e) × IsPointing w e)
@@ -142,17 +140,20 @@ abbrev pub IsBegun : Bool → Where → Expression → Type 0 → Type 0 → Typ
 IsBegun false w e Begins Part = Begins
 IsBegun true w e Begins Part = Begins ⊎ (IsDifference w e ⊎ Part)
 
+-- so one of a written type begins, or also with such a difference, whose type it is like
+abbrev pub IsSaid : Bool → Where → Expression → Type 0 → Type 0 → Type 0
+IsSaid false w e Begins Like = Begins
+IsSaid true w e Begins Like = Begins ⊎ (IsDifference w e × Like)
+
 -- a pointer to an element of a region that has a name goes through the name's slot
 abbrev pub GoesThrough : Where → Name → Expression → Type 0
-GoesThrough w n e =
-    slots_of w (slot_named w n) (type_of_element w.scope (bound w n).static_type e) ≡ slot_named w n ∷ []
+GoesThrough w n e = slots_of w (slot_named w n) (type_of_element w.scope (bound w n).static_type e) ≡ slot_named w n ∷ []
 
 -- ---- expressions
 
 -- a task of the program that needs nothing
 abbrev pub IsCalled : Tree → Name → Type 0
-IsCalled tree task =
-    (slice_get (tasks_of tree) (place_of_task tree task) ≡ Some (task_named tree task))
+IsCalled tree task = (slice_get (tasks_of tree) (place_of_task tree task) ≡ Some (task_named tree task))
     × ((task_code tree (task_named tree task)).needs ≡ [])
 
 -- a part of a partition that has a name, of a region that has one, with which a variable begins
@@ -161,6 +162,7 @@ BeginsAsPart takes w (access_expr n (at_step e no_step)) Part =
     LoopsOverPart w (access_expr n (at_step e no_step)) Part
     × (term_in (parent_bound w n).static_type ≡ term.Name (parent_of (bound w n).static_type))
     × BeginsWithin takes w.scope.next (parent_of (bound w n).static_type)
+    × BeginsAt takes w.scope.next (bound w n).number (colour_of w.scope e)
 BeginsAsPart takes w e Part = ⊥
 
 -- the access may be made to a field of a name's region
@@ -207,8 +209,7 @@ AreFurther forms w t (at_step e rest) = ⊥
 
 -- so it may to a field through a name's pointer
 abbrev pub MayGo : Forms → Where → Name → Name → Mode → Type 0
-MayGo forms w n f a = MayReach forms w (reaches_of (bound w n).static_type)
-    (field_place w.tree (space_in (bound w n).static_type) f) a
+MayGo forms w n f a = MayReach forms w (reaches_of (bound w n).static_type) (field_place w.tree (space_in (bound w n).static_type) f) a
 
 -- a task of the program, whose needs are met, of whose parameters the constraints hold, whose pointers go to parameters,
 -- and whose partitions are of the regions that it is given
@@ -220,8 +221,7 @@ IsCallable forms w task args =
     × AllGoToParams (scope_of w.tree (task_named w.tree task)).names
     × AreDivided w args 0 (param_types w.tree (task_named w.tree task))
 
--- a number or truth, an index or a pointer where these are kept, a region or a partition that has a name, or a part of a partition that has one is given
--- to a parameter
+-- a number or truth, an index or a pointer where these are kept, a region or partition that has a name, or a part of one that has is given to a parameter
 abbrev pub IsPassed : Forms → Where → StaticType → StaticType → Expression → Type 0 → Type 0 → Type 0
 IsPassed forms w t p e Typed Part =
     (PassesInto forms.keeps (typed w e) t p × Typed) ⊎ (IsHanded forms.takes w t p e ⊎ IsHandedPart forms.keeps forms.takes w t p e Part)
@@ -253,7 +253,7 @@ abbrev mutual
       × MayTouch forms w n (field_place w.tree (space_in (bound w n).static_type) f) mode.Read
       × AreFurther forms w (element_field w n e f) (field_step g rest)
   IsTyped forms w (call_expr task args) = (forms.calls ≡ true)
-      × IsScalar (result_type w.tree (task_named w.tree task).result) × IsCallable forms w task args
+      × HasZero (result_type w.tree (task_named w.tree task).result) × IsCallable forms w task args
       × ArePassed forms w (params_at w.tree w.scope (task_named w.tree task) args)
       (param_types w.tree (task_named w.tree task)) args
   IsTyped forms w (space_expr k e) = IsTyped forms w e × IsInteger (typed w e)
@@ -335,21 +335,20 @@ abbrev mutual
   IsTypedForm forms w (var_form n None (Some (plain_initializer e))) =
       IsBegun forms.keeps w e (IsKeepable forms.keeps w e × IsTyped forms w e) (BeginsAsPart forms.takes w e (IsIndexed forms w e))
   IsTypedForm forms w (var_form n None (Some start)) = IsBegunBy forms w start
-  IsTypedForm forms w (var_form n (Some t) (Some (plain_initializer e))) =
-      BeginsWith forms.keeps w.scope.names (typed w e) (var_type w.tree w.scope (Some t) (Some (plain_initializer e)))
-      × IsTyped forms w e
+  IsTypedForm forms w (var_form n (Some t) (Some (plain_initializer e))) = IsSaid forms.keeps w e
+      (BeginsWith forms.keeps w.scope.names (typed w e) (var_type w.tree w.scope (Some t) (Some (plain_initializer e))) × IsTyped forms w e)
+      (IsLike (var_type w.tree w.scope (Some t) (Some (plain_initializer e))) (initializer_type w.tree w.scope w.scope.next (plain_initializer e)))
   IsTypedForm forms w (var_form n (Some t) (Some start)) = (forms.keeps ≡ true)
       × IsLike (var_type w.tree w.scope (Some t) (Some start)) (initializer_type w.tree w.scope w.scope.next start) × IsBegunBy forms w start
   IsTypedForm forms w (var_form n (Some t) None) = BeginsAs forms.keeps w.scope.names (var_type w.tree w.scope (Some t) None)
   IsTypedForm forms w (if_form arms other) = AreTypedArms forms w w arms × IsTypedElse forms (after_arms w arms) other
-  IsTypedForm forms w (while_form test body) =
-      IsTruth (typed w test) × IsTyped forms w test × IsTypedBlock forms w body
+  IsTypedForm forms w (while_form test body) = IsTruth (typed w test) × IsTyped forms w test × IsTypedBlock forms w body
   IsTypedForm forms w (do_form body) = IsTypedBlock forms w body
   IsTypedForm forms w (assert_form e) = IsTruth (typed w e) × IsTyped forms w e
   IsTypedForm forms w (print_form alias format args) =
       AreNumbers forms w args × (numbers_in format ≡ Some (count args))
-  IsTypedForm forms w (return_form None) = forms.calls ≡ true → IsScalar w.result → ⊥
-  IsTypedForm forms w (return_form (Some e)) = AreAlike (typed w e) w.result × IsTyped forms w e
+  IsTypedForm forms w (return_form None) = forms.calls ≡ true → HasZero w.result → ⊥
+  IsTypedForm forms w (return_form (Some e)) = GivesBack (typed w e) w.result × IsTyped forms w e
   IsTypedForm forms w (for_to_form demanded n from to body) =
       IsInteger (typed w from) × IsInteger (typed w to) × IsTyped forms w from × IsTyped forms w to
       × IsTypedBlock forms (looping w n (arithmetic_type (typed w from) (typed w to))) body
@@ -357,9 +356,9 @@ abbrev mutual
       IsLooped forms.keeps w domain (IsTyped forms w domain) (IsIndexed forms w domain)
       (IsTypedBlock forms (looping w n (taken_from (typed w domain))) body)
   IsTypedForm forms w (assign_form n no_step how.Set e) =
-      IsAssigned forms.keeps (typed w e) (bound w n).static_type × IsTyped forms w e × (is_bound w.scope.names n ≡ true)
+      IsAssigned forms.keeps (typed w e) (bound w n).static_type × IsTyped forms w e × (is_bound w.scope.names n ≡ true) × MayChange forms.takes (bound w n).by_loop
   IsTypedForm forms w (assign_form n no_step (how.Reduce o) e) = IsInteger (typed w e)
-      × IsInteger (bound w n).static_type × IsTyped forms w e × (is_bound w.scope.names n ≡ true)
+      × IsInteger (bound w n).static_type × IsTyped forms w e × (is_bound w.scope.names n ≡ true) × MayChange forms.takes (bound w n).by_loop
   IsTypedForm forms w (assign_form n (at_step e (field_step f no_step)) how.Set y) =
       IsAssigned forms.keeps (typed w y) (element_field w n e f) × IsTyped forms w y × IsTyped forms w e
       × CountsAs forms.keeps (typed w e) × GoesThrough w n e × IsFieldOf forms.keeps w n f (element_field w n e f)

@@ -5,9 +5,11 @@
 
 ghost use Rattle.code_laws.specs.CallExample.{CallExampleHolds};
 ghost use Rattle.code_laws.specs.Example.{ExampleHolds};
+ghost use Rattle.code_laws.specs.GivenExample.{GivenExampleHolds};
 ghost use Rattle.code_laws.specs.Handing.{HandingProgramsEndWell, RegionsAreHandedAsMeant};
 ghost use Rattle.code_laws.specs.HandingExample.{HandingExampleHolds};
 ghost use Rattle.code_laws.specs.LocalExample.{LocalExampleHolds};
+ghost use Rattle.code_laws.specs.MinusExample.{MinusExampleHolds};
 ghost use Rattle.code_laws.specs.PointerCallExample.{PointerCallExampleHolds};
 ghost use Rattle.code_laws.specs.PointerExample.{PointerExampleHolds};
 ghost use Rattle.code_laws.specs.Privileges.{AllowedIsNeeded};
@@ -37,7 +39,7 @@ pub fn pointers_run_as_meant()
     ensures { PointersRunAsMeant }
 {}
 
-/// So it is where tasks call others that take and give numbers and truths, each with roots of its own: a call
+/// So it is where tasks call others that take numbers and truths and give these and indices, each with roots of its own: a call
 /// costs a turn, one too deep is a fault, and what a child means it comes to.
 #[tactic(auto, using(crate::proofs::Top::calls_run_as_meant))]
 pub fn calls_run_as_meant()
@@ -135,6 +137,20 @@ pub fn handing_example_holds()
 #[tactic(auto, using(crate::proofs::LocalExample::local_example_holds))]
 pub fn local_example_holds()
     ensures { LocalExampleHolds }
+{}
+
+/// A program with a task that gives an index, of which each premise of the law on accepted programs holds; with two inputs it
+/// means an end and a fault.
+#[tactic(auto, using(crate::proofs::GivenExample::given_example_holds))]
+pub fn given_example_holds()
+    ensures { GivenExampleHolds }
+{}
+
+/// A program with the difference of two partitions as a variable of a written type, of which each premise of the law on
+/// accepted programs holds; it means an end.
+#[tactic(auto, using(crate::proofs::MinusExample::minus_example_holds))]
+pub fn minus_example_holds()
+    ensures { MinusExampleHolds }
 {}
 
 /// A program and a number of which each premise of the law holds.

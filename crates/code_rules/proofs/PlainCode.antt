@@ -1,4 +1,4 @@
--- The code of a variable's value is a difference of partitions, or else that of its expression.
+-- The code of a variable's value is a difference of partitions, or else that of its expression, with a written type converted.
 use Rattle.std.proofs.Common.{ℕ, Bool}
 use Rattle.regent_tree.specs.Syntax.{Name, Expression, number_expr, truth_expr, chain_expr, prefix_expr, call_expr, access_expr, convert_expr, is_null_expr, null_expr, cast_expr, space_expr, Links, no_link, a_link, no_step, field_step, at_step}
 use Rattle.regent_tree.specs.declared.expression.Arithmetic.TheVariants.{Add, Subtract, Multiply, Divide, Remainder}
@@ -7,10 +7,10 @@ use Rattle.regent_tree.specs.declared.typing.StaticType.{StaticType}
 use Rattle.regent_tree.specs.declared.typing.StaticType.TheVariants as type
 use Rattle.task_code.specs.declared.instr.Instr.TheVariants as instr
 use Rattle.code_rules.specs.Expressions.{expr_code}
-use Rattle.code_rules.specs.Initializers.{beside_code, plain_code}
-use Rattle.code_rules.specs.Instructions.{one}
+use Rattle.code_rules.specs.Initializers.{beside_code, plain_code, written_code}
+use Rattle.code_rules.specs.Instructions.{converted_code, one}
 use Rattle.code_rules.specs.Pieces.{Piece, ◌⨟◌}
-use Rattle.code_rules.specs.Slots.{Where, slot_bound, slot_named}
+use Rattle.code_rules.specs.Slots.{Where, slot_bound, slot_named, typed}
 
 -- what holds of both codes holds of the value's
 abbrev IsEither : Where → StaticType → Expression → Type 1
@@ -87,3 +87,16 @@ plain_either w (type.Region k sp args r) e P g h = g
 plain_either w type.Nothing e P g h = g
 plain_either w type.Unknown e P g h = g
 plain_either w (type.Partition d r own) e P g h = partition_either w d r own e P g h
+
+-- so of one of a written type
+pub written_either : (w : Where) (t : StaticType) (e : Expression) (P : Piece → Type 0) → P (plain_code w t e) →
+    P (expr_code w 0 e ⨟ converted_code w (typed w e) t) → P (written_code w t e)
+written_either w (type.Integer v) e P g h = h
+written_either w type.Truth e P g h = h
+written_either w (type.Index k) e P g h = h
+written_either w (type.Pointer k sp args rs) e P g h = h
+written_either w (type.Ispace k) e P g h = h
+written_either w (type.Region k sp args r) e P g h = h
+written_either w type.Nothing e P g h = h
+written_either w type.Unknown e P g h = h
+written_either w (type.Partition d r own) e P g h = g

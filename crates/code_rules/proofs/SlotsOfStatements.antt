@@ -25,7 +25,7 @@ use Rattle.code_rules.specs.Statements.{after_arm, after_arms, after_form, arms_
 use Rattle.code_rules.specs.Used.{above_all}
 use Rattle.code_rules.proofs.ExpressionSizes.{both_nodes}
 use Rattle.code_rules.proofs.LowSlots.{Fits, IsLow, Placed, beside_low, bound_low, counter_low, either_fits, free, named_low, own_low, place_named, reaches_low, slot_low, spare_low, three_low}
-use Rattle.code_rules.proofs.PlainCode.{plain_either}
+use Rattle.code_rules.proofs.PlainCode.{plain_either, written_either}
 use Rattle.code_rules.proofs.SlotsOfExpressions.{after_low, converted_fits, expr_fits, exprs_fits}
 use Rattle.code_rules.proofs.StatementSizes.{before_nodes}
 
@@ -67,7 +67,7 @@ declared_fits : (m : ℕ) (w : Where) (term : Option TypeTerm) (t : StaticType) 
     Fits m (declared_code w term t e)
 declared_fits m w None t e p h = plain_fits m w t e p h
 declared_fits m w (Some term) t e p h =
-    (expr_fits m w 0 e p (omega (arith, h)), converted_fits m w (typed w e) t)
+    written_either w t e (Fits m) (plain_fits m w t e p h) (expr_fits m w 0 e p (omega (arith, h)), converted_fits m w (typed w e) t)
 
 initializer_fits : (m : ℕ) (w : Where) (term : Option TypeTerm) (t : StaticType) (i : Option Initializer) →
     Placed m w.scope.names → length w.scope.names + number_of_nodes (parts_of_init i) ≤ m →

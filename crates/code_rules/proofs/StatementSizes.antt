@@ -27,7 +27,7 @@ use Rattle.code_rules.specs.Slots.{beside}
 use Rattle.regent_tree.specs.Syntax.{number_expr, truth_expr, chain_expr, prefix_expr, call_expr, convert_expr, is_null_expr, null_expr, cast_expr, space_expr}
 use Rattle.regent_tree.specs.Typing.{width_of_type}
 use Rattle.task_code.specs.declared.instr.Instr.TheVariants as instr
-use Rattle.code_rules.proofs.PlainCode.{plain_either}
+use Rattle.code_rules.proofs.PlainCode.{plain_either, written_either}
 use Rattle.code_rules.proofs.ExpressionSizes.{both_nodes, all_nodes, converted_size, expr_size, exprs_size}
 
 either_size : (b : Bool) (p q : Piece) (n : ℕ) → size p ≤ n → size q ≤ n → size (cond b p q) ≤ n
@@ -72,7 +72,7 @@ declared_size w None t e = plain_size w t e
 declared_size w (Some term) t e =
     let a = expr_size w 0 e in
     let b = converted_size w (typed w e) t in
-    omega (arith, a, b)
+    written_either w t e (λ (p : Piece). size p ≤ 2 + 16 * number_of_nodes (parts_of_expression e)) (plain_size w t e) (omega (arith, a, b))
 
 initializer_size : (w : Where) (term : Option TypeTerm) (t : StaticType) (i : Option Initializer) →
     size (initializer_code w term t i) ≤ 8 + 16 * number_of_nodes (parts_of_init i)

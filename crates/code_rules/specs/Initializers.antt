@@ -43,9 +43,14 @@ plain_code w (partition_type e r own)
     one w (instr.Minus (slot_named w p) (slot_named w q) (slot_bound w r))
 plain_code w t e = expr_code w 0 e ⨟ beside_code w t e
 
+-- of a written type, converted to it; a partition stays as it is
+abbrev pub written_code : Where → StaticType → Expression → Piece
+written_code w (partition_type d r own) e = plain_code w (partition_type d r own) e
+written_code w t e = expr_code w 0 e ⨟ converted_code w (typed w e) t
+
 abbrev pub declared_code : Where → Option TypeTerm → StaticType → Expression → Piece
 declared_code w None t e = plain_code w t e
-declared_code w (Some term) t e = expr_code w 0 e ⨟ converted_code w (typed w e) t
+declared_code w (Some term) t e = written_code w t e
 
 abbrev pub initialized_code : Where → Option TypeTerm → StaticType → Initializer → Piece
 initialized_code w term t (region_initializer e u) =

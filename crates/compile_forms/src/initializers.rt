@@ -55,7 +55,7 @@ fn slot_of_parent(here: &Here, p: &Name) -> Result<u32, AllocError>
     }
 }
 
-/// A variable that begins with an expression.
+/// A variable that begins with an expression; one of a written type is converted to it, but for a partition.
 fn declared(
     here: &Here,
     body: &mut Body,
@@ -65,9 +65,9 @@ fn declared(
 ) -> Result<(), AllocError>
     ensures { OnOk result (body.new ≡ emitted body.old (declared_code (where_of here.now) term.now t.now (expression_of e.now))) }
 {
-    match term {
-        None => plain(here, body, t, e),
-        Some(_) => {
+    match (term, t) {
+        (None, _) | (Some(_), StaticType::Partition { .. }) => plain(here, body, t, e),
+        (Some(_), _) => {
             let from = expression(here, body, 0, e)?;
             converted(here, body, &from, t)
         }

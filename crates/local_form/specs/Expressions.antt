@@ -14,9 +14,9 @@ use Rattle.scalar_form.specs.ScalarForm.{is_scalar_number}
 -- ---- names
 
 -- the names of regions in a task, those of partitions, those that may stand for an index, an index space or a pointer,
--- and those among them that may stand for a pointer; the names of fields that hold indices, and those of fields that hold
--- pointers; whether such indices, index spaces and pointers may be assigned, elements be taken as pointers, and numbers
--- be converted to indices; and whether a variable begins as a part of a partition
+-- and those among them that may stand for a pointer; the names of fields that hold indices, those of fields that hold
+-- pointers, and those of tasks that give an index; and whether such indices, index spaces and pointers may be assigned,
+-- elements be taken as pointers, and numbers be converted to indices
 pub record Marked : Type 0 where
   pub regions : List Name
   pub partitions : List Name
@@ -24,8 +24,8 @@ pub record Marked : Type 0 where
   pub pointers : List Name
   pub index_fields : List Name
   pub pointer_fields : List Name
+  pub index_tasks : List Name
   pub keeps : Bool
-  pub parts : Bool
 
 abbrev pub is_among : List Name → Name → Bool
 is_among names n = list_any (λ m. bytes_eq m n) names
@@ -61,7 +61,7 @@ abbrev mutual
   gives_scalar m (access_expr n (at_step e (field_step f rest))) = not (is_kept_field m (last_of f rest))
   gives_scalar m (access_expr n (at_step e rest)) = false
   gives_scalar m (access_expr n (field_step f rest)) = not (is_among m.partitions n) && not (is_kept_field m (last_of f rest))
-  gives_scalar m (call_expr task args) = true
+  gives_scalar m (call_expr task args) = not (is_among m.index_tasks task)
   gives_scalar m (convert_expr t e) = is_scalar_number t
   gives_scalar m (is_null_expr e) = true
   gives_scalar m e = false
@@ -194,11 +194,10 @@ abbrev mutual
   is_part m (access_expr n (at_step e no_step)) = is_among m.partitions n && is_local_expression m e
   is_part m e = false
 
-  -- an argument is a name, of a region or of anything else, a part of a partition where no variable begins as one, or such an
-  -- expression
+  -- an argument is a name, of a region or of anything else, a part of a partition, or such an expression
   pub are_local_arguments : Marked → Expressions → Bool
   are_local_arguments m no_expr = true
-  are_local_arguments m (an_expr e es) = (is_name e || ((not m.parts && is_part m e) || is_local_expression m e)) && are_local_arguments m es
+  are_local_arguments m (an_expr e es) = (is_name e || (is_part m e || is_local_expression m e)) && are_local_arguments m es
 
 abbrev pub are_local_expressions : Marked → Expressions → Bool
 are_local_expressions m no_expr = true

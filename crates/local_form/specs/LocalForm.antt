@@ -1,9 +1,9 @@
 -- Programs whose tasks know each region by a local name, that of a parameter or of a variable that begins with
 -- region(..), and hand it over by that name, or by parts of partitions: each task takes numbers, truths, indices and regions,
--- and gives a number or truth, or nothing. Which names stand for regions and partitions, and which may stand for
+-- and gives a number, a truth or an index, or nothing. Which names stand for regions and partitions, and which may stand for
 -- an index, an index space or a pointer, is read from the text of a task; which fields hold indices or pointers, from the
--- field spaces.
-use Rattle.std.specs.Prelude.{Bool, true, false, List, [], ◌∷◌, Some, None, not, ◌&&◌, ◌||◌}
+-- field spaces, and which tasks give an index, from the tasks.
+use Rattle.std.specs.Prelude.{Bool, true, false, List, Option, [], ◌∷◌, Some, None, not, ◌&&◌, ◌||◌}
 use Rattle.std.specs.List.{list_all}
 use Rattle.regent_tree.specs.Syntax.{Arms, Block, Expression, Form, ItemForm, ItemTree, Name, Otherwise, TaskTree, Tree, a_statement, alias_item, an_arm, assert_form, assign_form, at_step, both_initializer, by_field_initializer, call_form, do_form, either_initializer, else_block, equal_initializer, field_step, fill_form, for_in_form, for_to_form, if_form, image_initializer, import_item, no_arm, no_else, no_statement, no_step, plain_initializer, preimage_initializer, print_form, region_initializer, return_form, space_item, start_item, task_item, then_statement, var_form, while_form}
 use Rattle.regent_tree.specs.declared.statement.How.TheVariants as how
@@ -13,7 +13,7 @@ use Rattle.regent_tree.specs.declared.types.TypeTerm.{TypeTerm}
 use Rattle.regent_tree.specs.declared.types.TypeTerm.TheVariants as term
 use Rattle.scalar_form.specs.ScalarForm.{is_scalar_if_said, is_scalar_term}
 pub use Rattle.local_form.specs.Expressions.{Marked, are_fields, are_local_arguments, are_local_expressions, are_local_links, converts_to, gives_pointer, gives_points, gives_scalar, goes_to_name, goes_to_names, is_among, is_difference, is_kept_apart, is_kept_field, is_local_expression, is_name, is_part, is_partition_name, is_pointing, is_region_name, last_of, links_give, takes_element, takes_part, takes_partition_off, takes_value, has_sign, takes_signs}
-pub use Rattle.local_form.specs.Marks.{is_index_or_space, is_index_term, is_partition_term, is_pointer_term, is_region_term, is_space_term, marked_by, marked_by_arms, marked_by_else, marked_by_item, marked_by_items, marked_by_task, marked_by_term, marked_by_value, marked_field, marked_fields, marked_in, marked_param, marked_params, unmarked, with_either, with_index, with_index_field, with_part, with_partition, with_pointer, with_pointer_field, with_region}
+pub use Rattle.local_form.specs.Marks.{is_index_or_space, is_index_term, is_partition_term, is_pointer_term, is_region_term, is_space_term, marked_by, marked_by_arms, marked_by_else, marked_by_item, marked_by_items, marked_by_task, marked_by_term, marked_by_value, marked_field, marked_fields, marked_in, marked_param, marked_params, unmarked, with_either, with_index, with_index_field, with_partition, with_pointer, with_pointer_field, with_region, is_index_if_said, marked_result, with_index_task}
 
 -- ---- statements
 
@@ -23,7 +23,7 @@ keeps_pointer m n e = not (gives_pointer m e) || (is_pointing e && is_among m.po
 
 -- a variable that begins as a part of a partition that has a name, and is known as a region
 abbrev pub begins_part : Marked → Name → Expression → Bool
-begins_part m n e = takes_part m e && (is_part m e && (is_among m.regions n && m.parts))
+begins_part m n e = takes_part m e && (is_part m e && is_among m.regions n)
 
 -- a variable of a written type is a number or truth, or an index or a pointer of whose name this is known
 abbrev pub is_kept_term : Marked → Name → TypeTerm → Bool
@@ -35,6 +35,10 @@ is_kept_term m n t = is_scalar_term t
 abbrev pub is_said_term : Marked → Name → TypeTerm → Bool
 is_said_term m n (term.Ispace k) = m.keeps && is_among m.indices n
 is_said_term m n t = is_kept_term m n t
+
+-- a partition that begins with the difference of two, and is known as a partition
+abbrev pub says_difference : Marked → Name → TypeTerm → Expression → Bool
+says_difference m n t e = is_partition_term t && (is_difference m e && is_among m.partitions n)
 
 -- a loop goes over a region that has a name, or a part of a partition that has one, and takes pointers, or over an index space
 abbrev pub is_local_domain : Marked → Name → Expression → Bool
@@ -49,7 +53,8 @@ abbrev mutual
   pub is_local_form : Marked → Form → Bool
   is_local_form m (var_form n None None) = true
   is_local_form m (var_form n (Some t) None) = is_kept_term m n t
-  is_local_form m (var_form n (Some t) (Some (plain_initializer e))) = is_said_term m n t && is_local_expression m e
+  is_local_form m (var_form n (Some t) (Some (plain_initializer e))) =
+      says_difference m n t e || (is_said_term m n t && is_local_expression m e)
   is_local_form m (var_form n None (Some (plain_initializer e))) =
       begins_part m n e
       || ((gives_scalar m e || is_among m.indices n)
@@ -121,9 +126,13 @@ is_local_param m p = is_taken_term m p.name p.term
 abbrev pub are_local_params : Marked → List Param → Bool
 are_local_params m ps = list_all (is_local_param m) ps
 
+-- a task gives a number, a truth or an index, or nothing
+abbrev pub is_local_result : Option TypeTerm → Bool
+is_local_result r = is_scalar_if_said r || is_index_if_said r
+
 -- a task is of the form with such marks
 abbrev pub is_local_with : Marked → TaskTree → Bool
-is_local_with m t = are_local_params m t.params && (is_scalar_if_said t.result && is_local_block m t.body)
+is_local_with m t = are_local_params m t.params && (is_local_result t.result && is_local_block m t.body)
 
 abbrev pub is_local_task : Tree → TaskTree → Bool
 is_local_task tree t = is_local_with (marked_by_task tree t) t

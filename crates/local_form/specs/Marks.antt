@@ -1,7 +1,7 @@
 -- Which names of a task stand for regions and partitions, and which may stand for an index, an index space or a pointer, read
--- from its text; and which fields hold indices or pointers, read from the field spaces.
-use Rattle.std.specs.Prelude.{Bool, true, false, List, [], ◌∷◌, ◌++◌, Some, None, cond, ◌||◌}
-use Rattle.regent_tree.specs.Syntax.{Arms, Block, Expression, Form, ItemForm, Name, Otherwise, TaskTree, Tree, a_statement, an_arm, both_initializer, by_field_initializer, do_form, either_initializer, else_block, equal_initializer, for_in_form, for_to_form, if_form, image_initializer, no_arm, no_else, no_statement, plain_initializer, preimage_initializer, region_initializer, space_item, then_statement, var_form, while_form}
+-- from its text; which fields hold indices or pointers, read from the field spaces; and which tasks give an index.
+use Rattle.std.specs.Prelude.{Bool, true, false, List, Option, [], ◌∷◌, ◌++◌, Some, None, cond, ◌||◌}
+use Rattle.regent_tree.specs.Syntax.{Arms, Block, Expression, Form, ItemForm, Name, Otherwise, TaskTree, Tree, a_statement, an_arm, both_initializer, by_field_initializer, do_form, either_initializer, else_block, equal_initializer, for_in_form, for_to_form, if_form, image_initializer, no_arm, no_else, no_statement, plain_initializer, preimage_initializer, region_initializer, space_item, task_item, then_statement, var_form, while_form}
 use Rattle.regent_tree.specs.declared.types.NumberTerm.TheVariants as number
 use Rattle.regent_tree.specs.declared.types.Param.{Param}
 use Rattle.regent_tree.specs.declared.types.TypeTerm.{TypeTerm}
@@ -11,17 +11,13 @@ use Rattle.local_form.specs.Expressions.{Marked, gives_pointer, gives_points, gi
 -- ---- names that are marked
 
 abbrev pub unmarked : Marked
-unmarked = record { regions = []; partitions = []; indices = []; pointers = []; index_fields = []; pointer_fields = []; keeps = true; parts = false }
+unmarked = record { regions = []; partitions = []; indices = []; pointers = []; index_fields = []; pointer_fields = []; index_tasks = []; keeps = true }
 
 abbrev pub with_region : Name → Marked → Marked
 with_region n m = record m { regions = m.regions ++ n ∷ [] }
 
 abbrev pub with_partition : Name → Marked → Marked
 with_partition n m = record m { partitions = m.partitions ++ n ∷ [] }
-
--- a part's name is a region's
-abbrev pub with_part : Name → Marked → Marked
-with_part n m = record m { regions = m.regions ++ n ∷ []; parts = true }
 
 abbrev pub with_index : Name → Marked → Marked
 with_index n m = record m { indices = m.indices ++ n ∷ [] }
@@ -36,13 +32,16 @@ with_index_field n m = record m { index_fields = m.index_fields ++ n ∷ [] }
 abbrev pub with_pointer_field : Name → Marked → Marked
 with_pointer_field n m = record m { pointer_fields = m.pointer_fields ++ n ∷ [] }
 
+abbrev pub with_index_task : Name → Marked → Marked
+with_index_task n m = record m { index_tasks = m.index_tasks ++ n ∷ [] }
+
 abbrev pub with_either : Bool → Name → Marked → Marked
 with_either points n m = cond points (with_pointer n m) (with_index n m)
 
 -- a variable without a written type that begins with an expression
 abbrev pub marked_by_value : Name → Expression → Marked → Marked
 marked_by_value n e m = cond (is_difference m e) (with_partition n m)
-    (cond (takes_part m e) (with_part n m) (cond (gives_scalar m e) m (with_either (gives_pointer m e) n m)))
+    (cond (takes_part m e) (with_region n m) (cond (gives_scalar m e) m (with_either (gives_pointer m e) n m)))
 
 -- a variable of a written type
 abbrev pub marked_by_term : Name → TypeTerm → Marked → Marked
@@ -117,9 +116,19 @@ abbrev pub marked_fields : List Param → Marked → Marked
 marked_fields [] m = m
 marked_fields (p ∷ ps) m = marked_fields ps (marked_field p m)
 
--- so of a program's field spaces
+-- a result that may be left out is an index
+abbrev pub is_index_if_said : Option TypeTerm → Bool
+is_index_if_said None = false
+is_index_if_said (Some t) = is_index_term t
+
+-- the name of a task that gives an index
+abbrev pub marked_result : TaskTree → Marked → Marked
+marked_result t m = cond (is_index_if_said t.result) (with_index_task t.name m) m
+
+-- so of a program's field spaces and tasks
 abbrev pub marked_by_item : ItemForm → Marked → Marked
 marked_by_item (space_item s) m = marked_fields s.fields m
+marked_by_item (task_item t) m = marked_result t m
 marked_by_item item m = m
 
 abbrev pub marked_by_items : Tree → Marked → Marked
@@ -135,6 +144,6 @@ abbrev pub marked_params : List Param → Marked → Marked
 marked_params [] m = m
 marked_params (p ∷ ps) m = marked_params ps (marked_param p m)
 
--- what a task of a program marks: the names of fields, and those in the task, its parameters first
+-- what a task of a program marks: the names of fields and of tasks, and those in the task, its parameters first
 abbrev pub marked_by_task : Tree → TaskTree → Marked
 marked_by_task tree t = marked_in t.body (marked_params t.params (marked_by_items tree unmarked))

@@ -15,7 +15,7 @@ is_local_arm m a =
     is_local_expression m (expression_of (out-Arm a).test) && is_local_block m (block_in (out-Arm a).body.items)
 
 abbrev pub is_local_argument : Marked → Expression → Bool
-is_local_argument m e = is_name e || ((not m.parts && is_part m e) || is_local_expression m e)
+is_local_argument m e = is_name e || (is_part m e || is_local_expression m e)
 
 -- what a loop takes
 abbrev pub marked_by_loop : Name → Expression → Marked → Marked

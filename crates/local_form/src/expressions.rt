@@ -212,15 +212,12 @@ pub fn is_part(marked: &Marked<'_>, e: &Expr) -> bool
     }
 }
 
-/// Whether an argument is a name, a region's or any other, a part of a partition where no variable begins as one, or such an
-/// expression.
+/// Whether an argument is a name, a region's or any other, a part of a partition, or such an expression.
 #[cycle(expression)]
 fn is_local_argument(marked: &Marked<'_>, arg: &Expr) -> bool
     ensures { result ≡ is_local_argument marked.now (expression_of arg.now) }
 {
-    is_name(arg)
-        || (!marked.has_parts() && is_part(marked, arg))
-        || is_local_expression(marked, arg)
+    is_name(arg) || is_part(marked, arg) || is_local_expression(marked, arg)
 }
 
 /// Whether such are all arguments of a call.

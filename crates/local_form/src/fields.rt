@@ -1,13 +1,13 @@
-//! Fields that hold indices and pointers.
+//! Fields that hold indices and pointers, and tasks that give an index.
 
 ghost use Rattle.std.specs.Prelude.{◌≡◌, OnOk, map};
-ghost use Rattle.regent_tree.specs.PlainProgram.{item_of, item_tree_of};
+ghost use Rattle.regent_tree.specs.PlainProgram.{item_of, item_tree_of, task_of};
 ghost use Rattle.local_form.specs.LocalForm.{are_local_fields, is_local_field};
-ghost use Rattle.local_form.specs.Marks.{is_index_term, is_pointer_term};
+ghost use Rattle.local_form.specs.Marks.{is_index_if_said, is_index_term, is_pointer_term, marked_result};
 ghost use Rattle.local_form.specs.Marks.{marked_by_item, marked_by_items, marked_field, marked_fields};
 
 use crate::marked::Marked;
-use regent_tree::{Item, ItemKind, NumberTerm, Param, TypeTerm};
+use regent_tree::{Item, ItemKind, NumberTerm, Param, Task, TypeTerm};
 use scalar_form::is_scalar_term;
 use std::alloc::AllocError;
 
@@ -68,18 +68,39 @@ fn mark_fields<'t>(marked: &mut Marked<'t>, fields: &'t [Param]) -> Result<(), A
     Ok(())
 }
 
-/// Marks those of an item, where it is a field space.
+/// Whether a result that may be left out is an index.
+pub fn is_index_if_said(term: &Option<TypeTerm>) -> bool
+    ensures { result ≡ is_index_if_said term.now }
+{
+    match term {
+        None => false,
+        Some(term) => is_index_term(term),
+    }
+}
+
+/// Marks the name of a task that gives an index.
+fn mark_result<'t>(marked: &mut Marked<'t>, task: &'t Task) -> Result<(), AllocError>
+    ensures { OnOk result (marked.new ≡ marked_result (task_of task.now) marked.old) }
+{
+    if is_index_if_said(&task.result) {
+        marked.add_index_task(&task.name)
+    } else {
+        Ok(())
+    }
+}
+
+/// Marks those of an item, where it is a field space or a task.
 fn mark_item<'t>(marked: &mut Marked<'t>, item: &'t ItemKind) -> Result<(), AllocError>
     ensures { OnOk result (marked.new ≡ marked_by_item (item_of item.now) marked.old) }
 {
     match item {
         ItemKind::Space(space) => mark_fields(marked, space.fields.as_slice()),
-        ItemKind::Import | ItemKind::Alias { .. } | ItemKind::Start { .. } | ItemKind::Task(_) =>
-            Ok(()),
+        ItemKind::Task(task) => mark_result(marked, task),
+        ItemKind::Import | ItemKind::Alias { .. } | ItemKind::Start { .. } => Ok(()),
     }
 }
 
-/// Marks the names of all fields of a program that hold indices or pointers.
+/// Marks the names of all fields of a program that hold indices or pointers, and of its tasks that give an index.
 pub fn mark_items<'t>(marked: &mut Marked<'t>, items: &'t [Item]) -> Result<(), AllocError>
     ensures { OnOk result
         (marked.new ≡ marked_by_items (map item_tree_of items.now) marked.old) }

@@ -34,7 +34,8 @@ pub fn gives_scalar(marked: &Marked<'_>, e: &Expr) -> bool
     ensures { result ≡ gives_scalar marked.now (expression_of e.now) }
 {
     match e {
-        Expr::Number { .. } | Expr::Truth(_) | Expr::Call { .. } | Expr::IsNull(_) => true,
+        Expr::Number { .. } | Expr::Truth(_) | Expr::IsNull(_) => true,
+        Expr::Call { task, .. } => !marked.is_index_task(task),
         Expr::Convert { to, .. } => is_scalar_number(*to),
         Expr::Prefix { inner, .. } => gives_scalar(marked, inner),
         Expr::Chain { first, rest } => {

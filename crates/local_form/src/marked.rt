@@ -4,7 +4,7 @@ ghost use Rattle.std.specs.Prelude.{◌≡◌, ◌&&◌, List, OnOk, bytes_eq, m
 ghost use Rattle.local_form.specs.Expressions.{converts_to, is_among, is_kept_apart, is_kept_field};
 ghost use Rattle.local_form.specs.Expressions.{has_sign, takes_element, takes_value};
 ghost use Rattle.local_form.specs.Marks.{unmarked};
-ghost use Rattle.local_form.specs.Marks.{with_either, with_index, with_index_field, with_part};
+ghost use Rattle.local_form.specs.Marks.{with_either, with_index, with_index_field, with_index_task};
 ghost use Rattle.local_form.specs.Marks.{with_partition};
 ghost use Rattle.local_form.specs.Marks.{with_pointer, with_pointer_field, with_region};
 
@@ -14,9 +14,9 @@ use std::alloc::{AllocError, Global};
 use std::marker::Model;
 
 /// The names of regions in a task, those of partitions, those that may stand for an index, an index space or a pointer,
-/// and those among them that may stand for a pointer; the names of fields that hold indices, and those of fields that hold
-/// pointers; whether such indices and pointers are kept: assigned, taken of elements, and converted from numbers; and
-/// whether a variable begins as a part of a partition.
+/// and those among them that may stand for a pointer; the names of fields that hold indices, those of fields that hold
+/// pointers, and those of tasks that give an index; and whether such indices and pointers are kept: assigned, taken of
+/// elements, and converted from numbers.
 #[derive(Drop)]
 pub struct Marked<'t> {
     regions: Vec<&'t Name>,
@@ -25,8 +25,8 @@ pub struct Marked<'t> {
     pointers: Vec<&'t Name>,
     index_fields: Vec<&'t Name>,
     pointer_fields: Vec<&'t Name>,
+    index_tasks: Vec<&'t Name>,
     keeps: bool,
-    parts: bool,
 }
 
 impl<'t> Model for Marked<'t> {
@@ -42,8 +42,8 @@ impl<'t> Model for Marked<'t> {
       pointers = map (λ n. n.now) s.pointers.items;
       index_fields = map (λ n. n.now) s.index_fields.items;
       pointer_fields = map (λ n. n.now) s.pointer_fields.items;
+      index_tasks = map (λ n. n.now) s.index_tasks.items;
       keeps = s.keeps;
-      parts = s.parts;
     } };
 }
 
@@ -75,8 +75,8 @@ impl<'t> Marked<'t> {
             pointers: Vec::new(alloc),
             index_fields: Vec::new(alloc),
             pointer_fields: Vec::new(alloc),
+            index_tasks: Vec::new(alloc),
             keeps: true,
-            parts: false,
         }
     }
 
@@ -182,33 +182,17 @@ impl<'t> Marked<'t> {
         self.is_index_field(name) || self.is_pointer_field(name)
     }
 
-    /// Whether a variable begins as a part of a partition.
-    pub fn has_parts(&self) -> bool
-        ensures { result ≡ self.now.parts }
+    /// Whether a task of that name gives an index.
+    pub fn is_index_task(&self, name: &Name) -> bool
+        ensures { result ≡ is_among self.now.index_tasks name.now }
     {
-        self.parts
-    }
-
-    /// Whether a name stands for a region, among which some begin as parts.
-    pub fn is_part_region(&self, name: &Name) -> bool
-        ensures { result ≡ (is_among self.now.regions name.now && self.now.parts) }
-    {
-        self.is_region(name) && self.parts
+        is_among(self.index_tasks.as_slice(), name)
     }
 
     pub fn add_region(&mut self, name: &'t Name) -> Result<(), AllocError>
         ensures { OnOk result (self.new ≡ with_region name.now self.old) }
     {
         self.regions.push(name)?;
-        Ok(())
-    }
-
-    /// A part's name is a region's.
-    pub fn add_part(&mut self, name: &'t Name) -> Result<(), AllocError>
-        ensures { OnOk result (self.new ≡ with_part name.now self.old) }
-    {
-        self.regions.push(name)?;
-        self.parts = true;
         Ok(())
     }
 
@@ -246,6 +230,13 @@ impl<'t> Marked<'t> {
         ensures { OnOk result (self.new ≡ with_pointer_field name.now self.old) }
     {
         self.pointer_fields.push(name)?;
+        Ok(())
+    }
+
+    pub fn add_index_task(&mut self, name: &'t Name) -> Result<(), AllocError>
+        ensures { OnOk result (self.new ≡ with_index_task name.now self.old) }
+    {
+        self.index_tasks.push(name)?;
         Ok(())
     }
 

@@ -24,7 +24,7 @@ fn mark_value<'t>(marked: &mut Marked<'t>, name: &'t Name, value: &Expr) -> Resu
     if is_difference(marked, value) {
         marked.add_partition(name)
     } else if takes_part(marked, value) {
-        marked.add_part(name)
+        marked.add_region(name)
     } else if gives_scalar(marked, value) {
         Ok(())
     } else {

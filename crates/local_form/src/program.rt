@@ -2,16 +2,16 @@
 
 ghost use Rattle.std.specs.Prelude.{◌≡◌, IfOk, OnOk, map};
 ghost use Rattle.regent_tree.specs.PlainProgram.{item_of, item_tree_of, task_of, tree_of};
-ghost use Rattle.local_form.specs.LocalForm.{are_local_params, is_local_item, is_local_param};
-ghost use Rattle.local_form.specs.Marks.{is_index_or_space, is_partition_term};
+ghost use Rattle.local_form.specs.LocalForm.{are_local_params, is_local_item, is_local_param, is_local_result};
+ghost use Rattle.local_form.specs.Marks.{is_index_or_space};
 ghost use Rattle.local_form.specs.LocalForm.{is_local_program, is_local_task, is_local_with};
 ghost use Rattle.local_form.specs.Marks.{is_region_term, marked_by_task, marked_param, marked_params};
 
-use crate::fields::{are_local_fields, is_pointer_term, mark_items};
+use crate::fields::{are_local_fields, is_index_if_said, is_pointer_term, mark_items};
 use crate::marked::Marked;
 use crate::marking::mark_block;
 use crate::statements::is_local_block;
-use crate::terms::is_taken_term;
+use crate::terms::{is_partition_term, is_taken_term};
 use regent_tree::{Item, ItemKind, NumberTerm, Param, Program, Task, TypeTerm};
 use scalar_form::is_scalar_if_said;
 use std::alloc::{AllocError, Global};
@@ -21,16 +21,6 @@ fn is_region_term(term: &TypeTerm) -> bool
 {
     match term {
         TypeTerm::Region { .. } => true,
-        _ => false,
-    }
-}
-
-/// Whether a type is a partition's.
-fn is_partition_term(term: &TypeTerm) -> bool
-    ensures { result ≡ is_partition_term term.now }
-{
-    match term {
-        TypeTerm::Partition { .. } => true,
         _ => false,
     }
 }
@@ -102,13 +92,20 @@ fn marks<'t>(alloc: Global, items: &'t [Item], task: &'t Task) -> Result<Marked<
     Ok(marked)
 }
 
-/// Whether a task takes numbers, truths, indices and regions, gives a number or truth, or nothing, and is of the form with
+/// Whether a task gives a number, a truth or an index, or nothing.
+fn is_local_result(term: &Option<TypeTerm>) -> bool
+    ensures { result ≡ is_local_result term.now }
+{
+    is_scalar_if_said(term) || is_index_if_said(term)
+}
+
+/// Whether a task takes numbers, truths, indices and regions, gives such a result, and is of the form with
 /// such marks.
 fn is_local_with(marked: &Marked<'_>, task: &Task) -> bool
     ensures { result ≡ is_local_with marked.now (task_of task.now) }
 {
     are_local_params(marked, task.params.as_slice())
-        && is_scalar_if_said(&task.result)
+        && is_local_result(&task.result)
         && is_local_block(marked, task.body.as_slice())
 }
 
@@ -130,11 +127,11 @@ fn is_local_item(alloc: Global, items: &[Item], item: &ItemKind) -> Result<bool,
     }
 }
 
-/// Whether each task of a program takes numbers, truths, indices and regions, gives a number or truth, or nothing, knows its
+/// Whether each task of a program takes numbers, truths, indices and regions, gives a number, a truth or an index, or nothing, knows its
 /// regions by names, and hands them over by these.
 ///
 /// It asks nothing of the rules: a program that breaches one may be such. Memory is taken for the names that a
-/// task marks, and for those of fields that hold indices.
+/// task marks, and for those of fields that hold indices and of tasks that give them.
 pub fn is_local(alloc: Global, program: &Program) -> Result<bool, AllocError>
     ensures { IfOk result (λ is. is ≡ is_local_program (tree_of program.now)) }
 {

@@ -7,8 +7,9 @@ use Rattle.regent_tree.specs.declared.typing.StaticType.TheVariants.{Partition a
 use Rattle.regent_tree.specs.declared.expression.Arithmetic.TheVariants.{Subtract}
 use Rattle.regent_tree.specs.declared.expression.Operator.TheVariants.{Compute}
 use Rattle.regent_tree.specs.Syntax.{a_link, access_expr, at_step, chain_expr, Expression, Name, no_link, no_step, plain_initializer, region_initializer, both_initializer, by_field_initializer, either_initializer, equal_initializer, image_initializer, preimage_initializer, a_statement, Form, var_form, if_form, while_form, for_in_form, for_to_form, do_form, fill_form, call_form, assert_form, print_form, assign_form, return_form, Block, no_statement, then_statement, Arms, no_arm, an_arm, Otherwise, no_else, else_block}
-use Rattle.regent_tree.specs.Typing.{colour_of, is_disjoint, parent_of, known_of_child, operated, owned, arithmetic_type, scope_after, scope_after_arms, scope_after_block, scope_after_else, taken_from, var_type}
+use Rattle.regent_tree.specs.Typing.{colour_of, initializer_type, is_disjoint, parent_of, known_of_child, operated, owned, arithmetic_type, scope_after, scope_after_arms, scope_after_block, scope_after_else, taken_from, var_type}
 use Rattle.task_code.specs.declared.code.TaskCode.{TaskCode}
+use Rattle.regent_tree.specs.declared.types.TypeTerm.{TypeTerm}
 use Rattle.code_rules.specs.Slots.{bound, Where, typed}
 use Rattle.code_rules.specs.Statements.{after_arm, after_arms, after_form, looping, on_line}
 use Rattle.code_laws.specs.Simple.{a_partition_type, IsPartition, IsInteger, an_integer, IsSimple, simple_integer, number_index, number_integer, two_integers, two_truths}
@@ -16,7 +17,7 @@ use Rattle.check_laws.specs.SoundScopes.{Falls}
 use Rattle.code_laws.specs.Steps.{Forms}
 use Rattle.code_laws.specs.Typed.{BeginsAsPart, IsDifference, IsIndexed, IsKeepable, IsTyped, IsTypedForm, AreTypedArms, IsTypedElse, IsTypedBlock}
 use Rattle.code_laws.proofs.Wider.{beginning}
-use Rattle.code_laws.specs.Pointers.{a_pointer_type, Begins, begins_plain, begins_pointer, fills_alike, fills_index, into_index, into_plain, into_space, IsLike}
+use Rattle.code_laws.specs.Pointers.{a_pointer_type, Begins, begins_plain, begins_pointer, BeginsWith, fills_alike, fills_index, into_index, into_plain, into_space, IsLike}
 use Rattle.regent_tree.specs.declared.typing.Bound.{Bound}
 use Rattle.sound_code.specs.Ways.{Way}
 use Rattle.code_laws.proofs.Domains.{part_is}
@@ -25,7 +26,7 @@ use Rattle.sound_code.proofs.ArgumentTypes.{part_parent}
 use Rattle.code_laws.specs.Taking.{BeginsWhole, BeginsWithin}
 use Rattle.sound_code.proofs.Scoped.{region_found}
 use Rattle.sound_code.proofs.WholeTasks.{is_value, are_whole_arms, is_whole_block, is_whole_else, is_whole_expression, is_whole_form}
-use Rattle.sound_code.proofs.Wholes.{Asks, asks_first, asks_second, begun_whole, begun_worth, said_worth, worth_simple, zero_worth}
+use Rattle.sound_code.proofs.Wholes.{Asks, asks_first, asks_second, begun_whole, begun_worth, said_whole, said_worth, worth_simple, zero_worth}
 use Rattle.sound_code.proofs.Liking.{like_cut, like_root}
 use Rattle.sound_code.proofs.Taken.{looped_parts, taken_worth}
 use Rattle.sound_code.proofs.Grounds.{BeginsUnder, BeginsWholly, Ground}
@@ -67,6 +68,18 @@ module _ (forms : Forms) (t : TaskCode) (way : Way) where
       let is = like_cut u d r w.scope.next like in
       subst (λ v. On w (knowing (with_name w.scope n v false) (known_of_type v))) (sym is.is) (ground_cut t w.tree w.params way w.scope n is.flag r falls g)
 
+  minus_like : (w : Where) (n : Name) (ty u v : StaticType) → IsPartition u → IsLike ty (owned w.scope.next (operated (Compute Subtract) u v)) →
+      Falls w.scope.next w.scope.names → On w w.scope →
+      On w (knowing (with_name w.scope n ty false) (known_of_child w.scope.next (operated (Compute Subtract) u v) ++ known_of_type ty))
+  minus_like w n ty _ v (a_partition_type d r p) like falls g = cut_ground w n ty d r like falls g
+
+  minus_said : (w : Where) (n : Name) (term : TypeTerm) (e : Expression) → IsDifference w e →
+      IsLike (var_type w.tree w.scope (Some term) (Some (plain_initializer e))) (initializer_type w.tree w.scope w.scope.next (plain_initializer e)) →
+      On w w.scope → On w (scope_after w.tree w.scope (var_form n (Some term) (Some (plain_initializer e))))
+  minus_said w n term (chain_expr (access_expr p no_step) (a_link (Compute Subtract) (access_expr q no_step) no_link)) d like g =
+      minus_like w n _ (bound w p).static_type (bound w q).static_type d.first.partition like d.first.numbers g
+  minus_said w n term _ d like g = absurd d
+
   -- how regions begin is told of the task
   abbrev pub BeginsSo : Where → Type 0
   BeginsSo w = ((i : ℕ) → BeginsWhole forms.takes i → BeginsWholly way i)
@@ -97,8 +110,13 @@ module _ (forms : Forms) (t : TaskCode) (way : Way) where
     after_form_ground w (var_form n None (Some (region_initializer e u))) f whole told g = ground_root t w.tree w.params way w.scope n _ _ _ (told.0 w.scope.next f.4) g
     after_form_ground w (var_form n (Some term) (Some (plain_initializer e))) f whole told g =
         let u = var_type w.tree w.scope (Some term) (Some (plain_initializer e)) in
-        ground_said t w.tree w.params way w.scope n (typed w e) u (begins_nothing w.scope.next w.scope.names _ u (beginning forms.keeps w.scope.names _ u f.0))
-        (said_worth forms.keeps w.scope.names _ u f.0 (asks_first _ _ _ whole)) g
+        ⊎_elim
+        (λ (b : (BeginsWith forms.keeps w.scope.names (typed w e) u × IsTyped forms w e) × Asks forms.keeps (is_value true u && is_whole_expression true w e)).
+        ground_said t w.tree w.params way w.scope n (typed w e) u (begins_nothing w.scope.next w.scope.names _ u (beginning forms.keeps w.scope.names _ u b.0.0))
+        (said_worth forms.keeps w.scope.names _ u b.0.0 (asks_first _ _ _ b.1)) g)
+        (λ d. minus_said w n term e d.1 d.2 g)
+        (said_whole forms.keeps w e u (is_whole_expression true w e) (IsTyped forms w e)
+        (IsLike u (initializer_type w.tree w.scope w.scope.next (plain_initializer e))) f whole)
     after_form_ground w (var_form n (Some term) None) f whole told g =
         let u = var_type w.tree w.scope (Some term) None in
         ground_declared t w.tree w.params way w.scope n u (zero_worth forms.keeps w.scope.names u f whole) g

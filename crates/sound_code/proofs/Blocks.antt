@@ -1,10 +1,10 @@
 -- The code of blocks has marks.
-use Rattle.std.proofs.Common.{◌≡◌, inr, ⊎_elim, ℕ, ◌<◌, [], ◌∷◌, true, ◌&&◌, Some, None, refl, sym, ap, ◌∙◌, subst, arith}
+use Rattle.std.proofs.Common.{◌≡◌, inr, ⊎_elim, ℕ, ◌<◌, [], ◌∷◌, true, ◌&&◌, Some, None, refl, sym, ap, ◌∙◌, subst, arith, suc}
 use Rattle.std.specs.Prelude.{length}
 use Rattle.regent_tree.specs.declared.statement.How.TheVariants as how
 use Rattle.regent_tree.specs.declared.typing.Bound.{Bound}
 use Rattle.regent_tree.specs.Syntax.{no_step, field_step, at_step, plain_initializer, a_statement, Form, var_form, if_form, while_form, for_in_form, for_to_form, do_form, fill_form, call_form, assert_form, print_form, assign_form, return_form, Block, no_statement, then_statement, Arms, no_arm, an_arm, Otherwise, no_else, else_block}
-use Rattle.regent_tree.specs.Typing.{arithmetic_type, scope_after, scope_after_block, scope_after_else, owned, taken_from, var_type}
+use Rattle.regent_tree.specs.Typing.{arithmetic_type, initializer_type, scope_after, scope_after_block, scope_after_else, owned, taken_from, var_type}
 use Rattle.task_code.specs.declared.code.TaskCode.{TaskCode}
 use Rattle.task_code.specs.declared.instr.Instr.TheVariants as instr
 use Rattle.code_rules.specs.Initializers.{new_place}
@@ -18,11 +18,12 @@ use Rattle.fit_rules.specs.Marks.{Mark, stacked}
 use Rattle.fit_rules.specs.Fits.{Program}
 use Rattle.code_laws.proofs.Told.{arms_grow, block_grows, else_grows}
 use Rattle.code_laws.specs.Steps.{Forms}
+use Rattle.code_laws.specs.Pointers.{BeginsWith, IsLike}
 use Rattle.code_laws.specs.Typed.{IsIndexed, IsKeepable, IsTyped, element_field, IsTypedForm, AreTypedArms, IsTypedElse, IsTypedBlock}
 use Rattle.fit_rules.specs.Shapes.{index}
 use Rattle.marked_code.specs.Marked.{leads_nowhere, typed_op}
-use Rattle.code_laws.proofs.Wider.{any_field, assigned, beginning, counting, zeroed}
-use Rattle.sound_code.specs.Named.{HasPartBeside, HasSlots}
+use Rattle.code_laws.proofs.Wider.{any_field, assigned, counting, zeroed}
+use Rattle.sound_code.specs.Named.{HasPartBeside, HasSlots, loops_in}
 use Rattle.regent_tree.specs.Scopes.{past, Scope}
 use Rattle.regent_tree.specs.Typing.{scope_after_arms}
 use Rattle.regent_tree.specs.declared.rights.Access.TheVariants as access
@@ -30,12 +31,13 @@ use Rattle.check_rules.specs.types.Parts.{tests_of}
 use Rattle.check_laws.specs.MeantVisits.{meant_in_arms, meant_in_else, meant_within}
 use Rattle.sound_code.proofs.WholeTasks.{is_value, are_whole_arms, is_whole_block, is_whole_else, is_whole_expression, is_whole_form}
 use Rattle.sound_code.specs.Ways.{Way, shape_in, shape_of}
-use Rattle.sound_code.proofs.Wholes.{Asks, asks_first, asks_second, assigned_becomes, begins_becomes, begun_whole, field_few, said_worth, set_worth, worth_few, worth_named, worth_numbered, worth_simple, zero_worth}
+use Rattle.sound_code.proofs.Wholes.{Asks, asks_first, asks_second, assigned_becomes, begun_whole, field_few, said_whole, set_worth, worth_named, worth_numbered, worth_simple, zero_worth}
 use Rattle.sound_code.proofs.Scoped.{Scoped}
-use Rattle.sound_code.proofs.ScopedNames.{said_scoped, scoped_bound, simple_scoped, zero_scoped}
+use Rattle.sound_code.proofs.ScopedNames.{scoped_bound, simple_scoped, zero_scoped}
 use Rattle.sound_code.proofs.Pointing.{reduce_behind_marked, set_behind_marked}
 use Rattle.sound_code.proofs.Copies.{begun_marked}
-use Rattle.sound_code.proofs.CutForms.{minus_marked}
+use Rattle.sound_code.proofs.CutForms.{minus_marked, minus_said}
+use Rattle.sound_code.proofs.Saying.{said_marked}
 use Rattle.sound_code.proofs.Pieces.{piece_marked}
 use Rattle.sound_code.proofs.Started.{said_started, started}
 use Rattle.sound_code.proofs.Cuts.{cut_plain, cut_same}
@@ -49,7 +51,7 @@ use Rattle.sound_code.proofs.Behind.{BeginsSo, after_arms_ground, after_block_gr
 use Rattle.sound_code.proofs.Grounds.{Ground, facts_more, facts_among}
 use Rattle.sound_code.proofs.Grown.{ground_block, ground_looping}
 use Rattle.sound_code.proofs.Steady.{steady_below}
-use Rattle.sound_code.proofs.Told.{ToldAll, ToldBlock, ToldForm, ToldList, told_arms, told_call_form, told_first, told_head, told_heads, told_listed, told_plain, told_statement}
+use Rattle.sound_code.proofs.Told.{ToldAll, ToldBlock, ToldForm, ToldList, told_arms, told_call_form, told_first, told_head, told_heads, told_listed, told_statement}
 use Rattle.sound_code.proofs.Wanting.{may_reduce, may_write, told_index}
 use Rattle.sound_code.proofs.Asked.{begins_under, begins_wholly, Asked, same_names, UpTo, upto_before, upto_inner}
 use Rattle.sound_code.proofs.Calling.{scalar_numeric}
@@ -65,6 +67,7 @@ use Rattle.sound_code.proofs.Prints.{print_marked}
 use Rattle.sound_code.proofs.Rounds.{domain_there, long_round, round_narrow, round_ready}
 use Rattle.sound_code.proofs.PointLoops as points
 use Rattle.sound_code.proofs.Statements.{begin_marked, Followed, new_name, unchanged, value_marked, bind_marked, assign_marked, return_marked, assert_marked, call_marked, closed_block, while_marked, branch_marked}
+use Rattle.sound_code.proofs.Looping.{may_store}
 
 module _ (g : Program) (t : TaskCode) (k slots : ℕ) (have : HasSlots t slots) (forms : Forms) (way : Way) where
   -- what is asked of a place
@@ -123,21 +126,13 @@ module _ (g : Program) (t : TaskCode) (k slots : ℕ) (have : HasSlots t slots) 
         (λ part. piece_marked g t k slots have forms way w m a x e told up d.0 part.0 part.1 pc st (stored g t k slots have forms way w m a _ _ st.1)) d.1)
         (begun_whole forms.keeps forms.takes w e (is_whole_expression true w e) (IsTyped forms w e) (IsIndexed forms w e) f whole)
     form_marked w m (var_form x (Some term) (Some (plain_initializer e))) f whole a told within up pc st =
-        let inside = asks_second forms.keeps _ (is_whole_expression true w e) whole in
         let u = var_type w.tree w.scope (Some term) (Some (plain_initializer e)) in
-        let begins = beginning forms.keeps w.scope.names (typed w e) u f.0 in
-        let is = said_worth forms.keeps w.scope.names (typed w e) u f.0 (asks_first _ _ _ whole) in
-        let b = new_name g t k slots have forms way w m a x u in
-        bind_marked g t k slots have forms way w m a x (shape_of u) u _ (λ x v. subst (λ s. Is x s v) (sym (worth_named way w.params u is)))
-        (worth_numbered way w.params (b ∷ w.scope.names) u is)
-        (scoped_bound forms.keeps way w.tree w.scope (var_form x (Some term) (Some (plain_initializer e))) b refl told a.scoped
-        (λ all. said_scoped w.scope.names w.scope.next (typed w e) u begins))
-        (cut_plain forms.keeps way w.tree w.scope (var_form x (Some term) (Some (plain_initializer e))) b w.params m.facts m.facts refl told (λ l h. h) a.cut
-        (worth_no_partition u is)) (written_no_child w.tree w.scope w.scope.next term)
-        (both g t k (value_marked g t k slots have forms way w m a e [] f.1 inside
-        (told_plain way forms w e f.1 inside (told_heads w.tree w.scope way (var_form x (Some term) (Some (plain_initializer e))) told)) pc st.0.0)
-        (converted_marked g t k slots have forms way w m a _ _ [] (begins_becomes w.scope.names _ u begins) (worth_few u is)))
-        (stored g t k slots have forms way w m a _ _ st.1)
+        ⊎_elim
+        (λ (b : (BeginsWith forms.keeps w.scope.names (typed w e) u × IsTyped forms w e) × Asks forms.keeps (is_value true u && is_whole_expression true w e)).
+        said_marked g t k slots have forms way w m a x term e b.0.0 b.0.1 b.1 told pc st)
+        (λ d. minus_said g t k slots have forms way w m a x term e told d.0 d.1 d.2 (stored g t k slots have forms way w m a _ _ st.1))
+        (said_whole forms.keeps w e u (is_whole_expression true w e) (IsTyped forms w e)
+        (IsLike u (initializer_type w.tree w.scope w.scope.next (plain_initializer e))) f whole)
     form_marked w m (var_form x (Some term) None) f whole a told within up pc st =
         let u = var_type w.tree w.scope (Some term) None in
         let zero = zeroed forms.keeps w.scope.names u f in
@@ -191,7 +186,7 @@ module _ (g : Program) (t : TaskCode) (k slots : ℕ) (have : HasSlots t slots) 
         let inner = block_marked lw rm body f.4 (asks_second _ _ _ rest) (record {
           hands = a.hands;
           ready = round_ready way w.params bs m a.ready i i i m.facts hi b refl (ap (shape_in way w.params) wd.is) tt tt tt
-              (steady_below w.params (length bs) _ m.facts (omega arith) a.ready.facts)
+              (steady_below w.params (length bs) (suc (length bs)) (loops_in way bs) (loops_in way bs) m.facts (omega arith) (λ c h. h) a.ready.facts)
               (subst (HasPartBeside way w.params rm.slots bs (length bs)) (sym wd.is) tt);
           params = a.params;
           result = a.result;
@@ -270,11 +265,11 @@ module _ (g : Program) (t : TaskCode) (k slots : ℕ) (have : HasSlots t slots) 
         (told_listed w.tree w.scope way args (told_heads w.tree w.scope way (print_form alias format args) told)) f.1 pc st
     form_marked w m (assign_form x no_step how.Set e) f whole a told within up pc st =
         assign_marked g t k slots have forms way w m a x e (assigned_becomes _ _ (assigned forms.keeps _ _ f.0)) (set_worth forms.keeps _ _ f.0 (asks_first _ _ _ whole)) f.1 (asks_second _ _ _ whole)
-        (told_head w.tree w.scope way (assign_form x no_step how.Set e) e refl told) f.2 (stored g t k slots have forms way w m a _ _ st.1) pc st.0.0
+        (told_head w.tree w.scope way (assign_form x no_step how.Set e) e refl told) f.2 (may_store way w.tree w.scope x how.Set e told f.2) (stored g t k slots have forms way w m a _ _ st.1) pc st.0.0
     form_marked w m (assign_form x no_step (how.Reduce o) e) f whole a told within up pc st =
         unchanged g t k forms.keeps way w.tree _ _ m _ a.ready a.scoped a.cut (both g t k (value_marked g t k slots have forms way w m a e [] f.2 (asks_second _ _ _ whole)
         (told_head w.tree w.scope way (assign_form x no_step (how.Reduce o) e) e refl told) pc st.0)
-        (folded g t k slots have forms way w m x o (shape_of (typed w e)) (bound w x).static_type refl (scalar_numeric _ (integer_is_plain _ f.0)) f.1 f.3 a _ st.1))
+        (folded g t k slots have forms way w m x o (shape_of (typed w e)) (bound w x).static_type refl (scalar_numeric _ (integer_is_plain _ f.0)) f.1 f.3 (may_store way w.tree w.scope x (how.Reduce o) e told f.3) a _ st.1))
     form_marked w m (assign_form x (at_step e (field_step l no_step)) how.Set y) f whole a told within up pc st =
         let field = any_field forms.keeps w x l _ f.5 in
         let number = counting forms.keeps _ f.3 in

@@ -20,13 +20,14 @@ use Rattle.code_rules.specs.Pieces.{Piece, op, ◌⨟◌, past, lines}
 use Rattle.code_rules.specs.Programs.{place_of, task_code}
 use Rattle.code_rules.specs.Statements.{block_code}
 use Rattle.code_rules.specs.Slots.{Where}
+use Rattle.code_laws.specs.Pointers.{HasZero, zero_index, zero_scalar}
 use Rattle.code_laws.specs.Simple.{AreAlike, two_integers, two_truths, IsScalar, scalar_integer, scalar_truth, IsSimple, simple_integer, simple_truth, simple_index, simple_space}
 use Rattle.task_code.specs.declared.code.NeedCode.{NeedCode}
 use Rattle.code_laws.specs.Steps.{Forms, Taking}
 use Rattle.code_laws.specs.Arguments.{AreMet, IsMetAt}
 use Rattle.code_laws.specs.Typed.{ArePassed, IsIndexed, IsTyped}
 use Rattle.code_laws.proofs.Openings.{params_length, types_length}
-use Rattle.fit_rules.specs.Shapes.{Each, Shape, anything, Numeric, numeric_integer, numeric_truth, World, Is, is_anything, is_number, is_space, Are, are_none, are_more}
+use Rattle.fit_rules.specs.Shapes.{Each, Shape, anything, Numeric, numeric_index, numeric_integer, numeric_truth, World, Is, is_anything, is_number, is_space, Are, are_none, are_more}
 use Rattle.fit_rules.specs.Marks.{Mark, Suits, around}
 use Rattle.fit_rules.specs.Fits.{claims, declared_claims, Program}
 use Rattle.fit_rules.specs.Ends.{called, IsNeeded}
@@ -50,13 +51,13 @@ pub scalar_numeric : (t : StaticType) → IsScalar t → Numeric (shape_of t)
 scalar_numeric _ (scalar_integer w) = numeric_integer w
 scalar_numeric _ scalar_truth = numeric_truth
 
+pub zero_numeric : (t : StaticType) → HasZero t → Numeric (shape_of t)
+zero_numeric _ (zero_scalar _ s) = scalar_numeric _ s
+zero_numeric _ (zero_index k) = numeric_index
+
 pub alike_first : (t u : StaticType) → AreAlike t u → IsScalar t
 alike_first _ _ (two_integers a b) = scalar_integer a
 alike_first _ _ two_truths = scalar_truth
-
-pub alike_second : (t u : StaticType) → AreAlike t u → IsScalar u
-alike_second _ _ (two_integers a b) = scalar_integer b
-alike_second _ _ two_truths = scalar_truth
 
 -- ---- values that are pushed one after the other
 
@@ -105,41 +106,41 @@ pub types_many : (tree : Tree) (t : TaskTree) → length (param_types tree t) �
 types_many tree t = types_length (scope_of tree t).names ∙ params_length tree t.params 0 t.params
 
 -- what clauses tell speaks of parameters alone
-both_told : (params a b : ℕ) (f : Fact) → (a < params → b < params → IsSteady params params f) →
-    Each (IsSteady params params) (cond (nat_lt a params && nat_lt b params) (f ∷ []) [])
+both_told : (params a b : ℕ) (f : Fact) → (a < params → b < params → IsSteady params params [] f) →
+    Each (IsSteady params params []) (cond (nat_lt a params && nat_lt b params) (f ∷ []) [])
 both_told params a b f h = chosen (nat_lt a params) refl (nat_lt b params) refl
   where
-    chosen : (c : Bool) → nat_lt a params ≡ c → (d : Bool) → nat_lt b params ≡ d → Each (IsSteady params params) (cond (c && d) (f ∷ []) [])
+    chosen : (c : Bool) → nat_lt a params ≡ c → (d : Bool) → nat_lt b params ≡ d → Each (IsSteady params params []) (cond (c && d) (f ∷ []) [])
     chosen true p true q = (h (ltb-true a params p) (ltb-true b params q), tt)
     chosen true p false q = tt
     chosen false p d q = tt
 
-told_steady : (params : ℕ) (k : RegionKnown) → Each (IsSteady params params) (told_by params k)
+told_steady : (params : ℕ) (k : RegionKnown) → Each (IsSteady params params []) (told_by params k)
 told_steady params (Within (TermName a) (TermName b)) = both_told params a b (lies (in_slot a) (in_slot b)) (is_within a b)
 told_steady params (Apart (TermName a) (TermName b)) = both_told params a b (apart (in_slot a) (in_slot b)) (is_apart a b)
 told_steady params (PartOf p r d) = both_told params p r (parted p r) (λ l k.
-    subst (λ q. IsSteady params params (parted q r)) (omega (arith, l))
-    (subst (λ q. IsSteady params params (parted (slot_at params p) q)) (omega (arith, k)) (is_parted p r l k)))
+    subst (λ q. IsSteady params params [] (parted q r)) (omega (arith, l))
+    (subst (λ q. IsSteady params params [] (parted (slot_at params p) q)) (omega (arith, k)) (is_parted p r l k)))
 told_steady params _ = tt
 
 each_both : (P : Fact → Type 0) (xs ys : List Fact) → Each P xs → Each P ys → Each P (xs ++ ys)
 each_both P [] ys a b = b
 each_both P (x ∷ xs) ys a b = (a.0, each_both P xs ys a.1 b)
 
-all_steady : (params : ℕ) (ks : List RegionKnown) → Each (IsSteady params params) (flat_map (told_by params) ks)
+all_steady : (params : ℕ) (ks : List RegionKnown) → Each (IsSteady params params []) (flat_map (told_by params) ks)
 all_steady params [] = tt
-all_steady params (k ∷ ks) = each_both (IsSteady params params) (told_by params k) (flat_map (told_by params) ks) (told_steady params k) (all_steady params ks)
+all_steady params (k ∷ ks) = each_both (IsSteady params params []) (told_by params k) (flat_map (told_by params) ks) (told_steady params k) (all_steady params ks)
 
-pub opening_steady : (way : Way) (tree : Tree) (t : TaskTree) → Each (IsSteady (length t.params) (length t.params)) (opening_facts way tree t)
+pub opening_steady : (way : Way) (tree : Tree) (t : TaskTree) → Each (IsSteady (length t.params) (length t.params) []) (opening_facts way tree t)
 opening_steady all_made tree t = tt
 opening_steady (by_rules tops task) tree t = all_steady (length t.params) (scope_of tree t).known
 
 opening_kept : (way : Way) (tree : Tree) (t : TaskTree) (ws us : List Value) → length ws ≡ length t.params → Each (λ k. Holds k ws) (opening_facts way tree t) →
     Each (λ k. Holds k (ws ++ us)) (opening_facts way tree t)
-opening_kept way tree t ws us long h = steady_holds (length t.params) (length t.params) (omega arith) ws (ws ++ us)
+opening_kept way tree t ws us long h = steady_holds (length t.params) (length t.params) (omega arith) [] ws (ws ++ us)
     (λ p lo hi. absurd (omega (arith, lo, hi)))
     (λ i l.
-    let same = get_front ws us (slot_at (length t.params) i) (omega (arith, l, long)) in (ap region_in same, ap partition_in same))
+    let same = get_front ws us (slot_at (length t.params) i) (omega (arith, l, long)) in (ap region_in same, ap partition_in same)) (λ b h. absurd h)
     (opening_facts way tree t) (opening_steady way tree t) h
 
 -- what a frame has that opens with arguments of the parameters' shapes suits the mark
@@ -249,7 +250,7 @@ worths_told way tree t x ts ws h a = each (opening_facts way tree t) (opening_st
     none : (i : ℕ) → (region_in (slice_get ws i) ≡ None) × (partition_in (slice_get ws i) ≡ None)
     none = no_regions x ts ws h a
 
-    one : (k : Fact) → IsSteady (length t.params) (length t.params) k → Holds k ws
+    one : (k : Fact) → IsSteady (length t.params) (length t.params) [] k → Holds k ws
     one _ (is_count p lo hi) = absurd (omega (arith, lo, hi))
     one _ (is_within i j li lj) = λ r e. absurd (none-some r (sym (none i).0 ∙ e))
     one _ (is_apart i j li lj) = λ r q e f. absurd (none-some r (sym (none i).0 ∙ e))
@@ -257,7 +258,7 @@ worths_told way tree t x ts ws h a = each (opening_facts way tree t) (opening_st
     one _ (is_piece i p c li lp w) = λ r e. absurd (none-some r (sym (none (slot_at (length t.params) i)).0 ∙ e))
     one _ (is_begun i j li lj) = λ r e. absurd (none-some r (sym (none (slot_at (length t.params) i)).0 ∙ e))
 
-    each : (ks : List Fact) → Each (IsSteady (length t.params) (length t.params)) ks → Each (λ k. Holds k ws) ks
+    each : (ks : List Fact) → Each (IsSteady (length t.params) (length t.params) []) ks → Each (λ k. Holds k ws) ks
     each [] s = tt
     each (k ∷ ks) s = (one k s.0, each ks s.1)
 

@@ -1,17 +1,16 @@
 -- The colours of parts, as marks know them: a number that is written, that of a loop's variable, or the point of one that is a
--- pointer. And the slots of names, which stay while something stands on the stack.
-use Rattle.std.proofs.Common.{◌≡◌, ℕ, zero, suc, ◌<◌, ℤ, pos, List, [], ◌∷◌, Bool, true, false, not, cond, Option, None, Some, refl, sym, ap, ◌∙◌, subst, arith}
-use Rattle.std.specs.Prelude.{bytes_eq, length, slice_get, take, ◌||◌}
-use Rattle.std.proofs.lemmas.Bool.{false≢true}
+-- pointer, which stay in the loop's body. And the slots of names, which stay while something stands on the stack.
+use Rattle.std.proofs.Common.{◌≡◌, ℕ, zero, suc, ◌<◌, ℤ, List, [], ◌∷◌, Bool, true, false, not, cond, Option, None, Some, refl, sym, ap, ◌∙◌, subst, arith, ◌≤◌}
+use Rattle.std.specs.Prelude.{bytes_eq, length, slice_get, take, ◌||◌, ◌==◌}
+use Rattle.std.proofs.lemmas.Bool.{false≢true, eqb-true, ne_eqb}
 use Rattle.std.proofs.lemmas.Option.{same_Some}
 use Rattle.regent_tree.specs.Lookup.{is_bound}
-use Rattle.regent_tree.specs.Scopes.{bound_to, Scope}
+use Rattle.regent_tree.specs.Scopes.{bound_to, bound_as}
 use Rattle.regent_tree.specs.Syntax.{access_expr, at_step, call_expr, cast_expr, chain_expr, convert_expr, Expression, field_step, is_null_expr, Name, no_step, null_expr, number_expr, prefix_expr, space_expr, truth_expr}
 use Rattle.regent_tree.specs.Facts.{is_unknown}
 use Rattle.regent_tree.specs.Typing.{colour_of}
 use Rattle.regent_tree.specs.declared.facts.Colour.{Colour as WrittenColour}
 use Rattle.regent_tree.specs.declared.facts.Colour.TheVariants.{Constant, Loop, Unknown}
-use Rattle.code_laws.specs.Arguments.{AreOneColour, one_name, one_number}
 use Rattle.regent_tree.specs.Values.{null_target, point_target, Target, target_kept}
 use Rattle.regent_tree.specs.declared.typing.Bound.{Bound}
 use Rattle.regent_tree.specs.declared.typing.StaticType.{StaticType}
@@ -22,8 +21,12 @@ use Rattle.machine_terms.specs.declared.value.Value.TheVariants as value
 use Rattle.machine_terms.specs.Regions.{coloured, partition_in}
 use Rattle.code_rules.specs.Slots.{bound, slot_named, Where}
 use Rattle.fit_rules.specs.Shapes.{any_colour, Colour, colour_in, HasColour, HasNumber, HasPoint, IsChild, IsPointOf, point_in, Shape, the_colour}
-use Rattle.sound_code.specs.Named.{AreNamed, IsWrittenColour, slot_at}
+use Rattle.sound_code.specs.Named.{AreNamed, slot_at, IsLoopSlot, IsSteadyColour}
 use Rattle.sound_code.specs.Ways.{Way}
+use Rattle.check_laws.specs.SoundScopes.{Falls}
+use Rattle.check_laws.proofs.Scopes.{found_by_number}
+use Rattle.code_laws.specs.Coloured.{IsBoundIn}
+use Rattle.code_laws.proofs.Pieced.{bound_there}
 
 -- ---- colours
 
@@ -37,10 +40,17 @@ colour_at w (number_expr z v) = the_colour z
 colour_at w (access_expr n no_step) = cond (bound w n).by_loop (held_colour (bound w n).static_type (slot_named w n)) any_colour
 colour_at w e = any_colour
 
--- that of a number that is written
-abbrev pub written_colour : Expression → Colour
-written_colour (number_expr z v) = the_colour z
-written_colour e = any_colour
+-- so by the number of a variable's binding
+abbrev pub held_of : ℕ → List Bound → WrittenColour → Colour
+held_of params bs (Constant z) = the_colour z
+held_of params bs (Loop i) = held_colour (bound_as bs i).static_type (slot_at params (bound_as bs i).place)
+held_of params bs Unknown = any_colour
+
+-- where it is that of a loop's variable, this is in scope
+abbrev pub IsLoopIn : List Bound → WrittenColour → Type 0
+IsLoopIn bs (Constant z) = Unit {0}
+IsLoopIn bs (Loop i) = (bound_as bs i).by_loop ≡ true
+IsLoopIn bs Unknown = Unit {0}
 
 -- the slot that a colour names is below a number
 abbrev pub IsUnder : ℕ → Colour → Type 0
@@ -89,11 +99,6 @@ one_child vs p c known r q h k =
 
 -- ---- colours that are written
 
--- two that stand for one colour are known as one
-pub same_colour : (w : Where) (e f : Expression) → AreOneColour e f → colour_at w e ≡ colour_at w f
-same_colour w _ _ (one_number z v u) = refl
-same_colour w _ _ (one_name n) = refl
-
 known_held : (u : StaticType) (s : ℕ) → IsKnown (held_colour u s)
 known_held (pointer_type k sp args rs) s = tt
 known_held (integer_type v) s = tt
@@ -126,68 +131,103 @@ certain_known w (null_expr p) h = absurd (false≢true h)
 certain_known w (cast_expr p a) h = absurd (false≢true h)
 certain_known w (space_expr c a) h = absurd (false≢true h)
 
-abbrev IsConstant : WrittenColour → Type 0
-IsConstant (Constant z) = Unit {0}
-IsConstant (Loop i) = ⊥
-IsConstant Unknown = ⊥
-
-abbrev constant_in : WrittenColour → ℤ
-constant_in (Constant z) = z
-constant_in (Loop i) = pos 0
-constant_in Unknown = pos 0
-
--- and a number is known as that
-pub constant_at : (w : Where) (e : Expression) (z : ℤ) → colour_of w.scope e ≡ Constant z → colour_at w e ≡ the_colour z
-constant_at w (number_expr y v) z h = ap (λ c. the_colour (constant_in c)) h
-constant_at w (access_expr n no_step) z h = of (bound w n).by_loop h
+-- a name that a loop bound is bound
+loop_bound : (bs : List Bound) (n : Name) → (bound_to bs n).by_loop ≡ true → is_bound bs n ≡ true
+loop_bound [] n e = absurd (false≢true e)
+loop_bound (b ∷ bs) n e = chosen (bytes_eq b.name n) (loop_bound bs n) e
   where
-    of : (b : Bool) → cond b (Loop (bound w n).number) Unknown ≡ Constant z →
-        cond b (held_colour (bound w n).static_type (slot_named w n)) any_colour ≡ the_colour z
-    of true h = absurd (subst IsConstant (sym h) tt)
-    of false h = absurd (subst IsConstant (sym h) tt)
-constant_at w (access_expr n (field_step a rest)) z h = absurd (subst IsConstant (sym h) tt)
-constant_at w (access_expr n (at_step a rest)) z h = absurd (subst IsConstant (sym h) tt)
-constant_at w (truth_expr b) z h = absurd (subst IsConstant (sym h) tt)
-constant_at w (chain_expr a rest) z h = absurd (subst IsConstant (sym h) tt)
-constant_at w (prefix_expr signs a) z h = absurd (subst IsConstant (sym h) tt)
-constant_at w (call_expr a args) z h = absurd (subst IsConstant (sym h) tt)
-constant_at w (convert_expr c a) z h = absurd (subst IsConstant (sym h) tt)
-constant_at w (is_null_expr a) z h = absurd (subst IsConstant (sym h) tt)
-constant_at w (null_expr p) z h = absurd (subst IsConstant (sym h) tt)
-constant_at w (cast_expr p a) z h = absurd (subst IsConstant (sym h) tt)
-constant_at w (space_expr c a) z h = absurd (subst IsConstant (sym h) tt)
+    chosen : (c : Bool) → ((bound_to bs n).by_loop ≡ true → is_bound bs n ≡ true) → (cond c b (bound_to bs n)).by_loop ≡ true → (c || is_bound bs n) ≡ true
+    chosen true more e = refl
+    chosen false more e = more e
 
-pub written_at : (s : Scope) (e : Expression) (z : ℤ) → colour_of s e ≡ Constant z → written_colour e ≡ the_colour z
-written_at s (number_expr y v) z h = ap (λ c. the_colour (constant_in c)) h
-written_at s (access_expr n no_step) z h = of (bound_to s.names n).by_loop h
+-- what is written is known by the binding
+abbrev IsHeld : Where → Expression → Type 0
+IsHeld w e = IsLoopIn w.scope.names (colour_of w.scope e) × (colour_at w e ≡ held_of w.params w.scope.names (colour_of w.scope e))
+
+pub colour_held : (w : Where) (e : Expression) → Falls w.scope.next w.scope.names → IsHeld w e
+colour_held w (number_expr z v) falls = (tt, refl)
+colour_held w (access_expr n no_step) falls = of (bound w n).by_loop refl
   where
-    of : (b : Bool) → cond b (Loop (bound_to s.names n).number) Unknown ≡ Constant z → any_colour ≡ the_colour z
-    of true h = absurd (subst IsConstant (sym h) tt)
-    of false h = absurd (subst IsConstant (sym h) tt)
-written_at s (access_expr n (field_step a rest)) z h = absurd (subst IsConstant (sym h) tt)
-written_at s (access_expr n (at_step a rest)) z h = absurd (subst IsConstant (sym h) tt)
-written_at s (truth_expr b) z h = absurd (subst IsConstant (sym h) tt)
-written_at s (chain_expr a rest) z h = absurd (subst IsConstant (sym h) tt)
-written_at s (prefix_expr signs a) z h = absurd (subst IsConstant (sym h) tt)
-written_at s (call_expr a args) z h = absurd (subst IsConstant (sym h) tt)
-written_at s (convert_expr c a) z h = absurd (subst IsConstant (sym h) tt)
-written_at s (is_null_expr a) z h = absurd (subst IsConstant (sym h) tt)
-written_at s (null_expr p) z h = absurd (subst IsConstant (sym h) tt)
-written_at s (cast_expr p a) z h = absurd (subst IsConstant (sym h) tt)
-written_at s (space_expr c a) z h = absurd (subst IsConstant (sym h) tt)
+    of : (b : Bool) → (bound w n).by_loop ≡ b → IsLoopIn w.scope.names (cond b (Loop (bound w n).number) Unknown)
+        × (cond b (held_colour (bound w n).static_type (slot_named w n)) any_colour ≡ held_of w.params w.scope.names (cond b (Loop (bound w n).number) Unknown))
+    of true e =
+        let at = sym (found_by_number w.scope.next w.scope.names n falls (loop_bound w.scope.names n e)).0 in
+        (subst (λ (b : Bound). b.by_loop ≡ true) at e, ap (λ (b : Bound). held_colour b.static_type (slot_at w.params b.place)) at)
+    of false e = (tt, refl)
+colour_held w (access_expr n (field_step a rest)) falls = (tt, refl)
+colour_held w (access_expr n (at_step a rest)) falls = (tt, refl)
+colour_held w (truth_expr b) falls = (tt, refl)
+colour_held w (chain_expr a rest) falls = (tt, refl)
+colour_held w (prefix_expr signs a) falls = (tt, refl)
+colour_held w (call_expr a args) falls = (tt, refl)
+colour_held w (convert_expr c a) falls = (tt, refl)
+colour_held w (is_null_expr a) falls = (tt, refl)
+colour_held w (null_expr p) falls = (tt, refl)
+colour_held w (cast_expr p a) falls = (tt, refl)
+colour_held w (space_expr c a) falls = (tt, refl)
 
-pub written_fixed : (e : Expression) → IsWrittenColour (written_colour e)
-written_fixed (number_expr z v) = tt
-written_fixed (access_expr n rest) = tt
-written_fixed (truth_expr b) = tt
-written_fixed (chain_expr a rest) = tt
-written_fixed (prefix_expr signs a) = tt
-written_fixed (call_expr a args) = tt
-written_fixed (convert_expr c a) = tt
-written_fixed (is_null_expr a) = tt
-written_fixed (null_expr p) = tt
-written_fixed (cast_expr p a) = tt
-written_fixed (space_expr c a) = tt
+-- it names no slot, or that of a loop's variable
+held_steady : (params : ℕ) (bs : List Bound) (u : StaticType) (s : ℕ) → IsLoopSlot params bs s → IsSteadyColour params bs (held_colour u s)
+held_steady params bs (pointer_type k sp args rs) s h = h
+held_steady params bs (integer_type v) s h = h
+held_steady params bs truth_type s h = h
+held_steady params bs (index_type k) s h = h
+held_steady params bs (ispace_type k) s h = h
+held_steady params bs (region_type k sp args r) s h = h
+held_steady params bs (partition_type d r p) s h = h
+held_steady params bs no_type s h = h
+held_steady params bs unknown_type s h = h
+
+pub colour_steady : (w : Where) (e : Expression) → IsSteadyColour w.params w.scope.names (colour_at w e)
+colour_steady w (number_expr z v) = tt
+colour_steady w (access_expr n no_step) = of (bound w n).by_loop refl
+  where
+    of : (b : Bool) → (bound w n).by_loop ≡ b → IsSteadyColour w.params w.scope.names (cond b (held_colour (bound w n).static_type (slot_named w n)) any_colour)
+    of true e = held_steady w.params w.scope.names (bound w n).static_type (slot_named w n)
+        (record { variable = bound w n; there = bound_there w.scope.names n (loop_bound w.scope.names n e); by_loop = e; slot = refl })
+    of false e = tt
+colour_steady w (access_expr n (field_step a rest)) = tt
+colour_steady w (access_expr n (at_step a rest)) = tt
+colour_steady w (truth_expr b) = tt
+colour_steady w (chain_expr a rest) = tt
+colour_steady w (prefix_expr signs a) = tt
+colour_steady w (call_expr a args) = tt
+colour_steady w (convert_expr c a) = tt
+colour_steady w (is_null_expr a) = tt
+colour_steady w (null_expr p) = tt
+colour_steady w (cast_expr p a) = tt
+colour_steady w (space_expr c a) = tt
+
+-- such a slot is below those behind the names
+pub steady_under : (params : ℕ) (bs : List Bound) (c : Colour) → ((b : Bound) → IsBoundIn bs b → b.place < length bs) → IsSteadyColour params bs c →
+    IsUnder (slot_at params (length bs)) c
+steady_under params bs (the_colour z) low h = tt
+steady_under params bs (colour_in s) low h = let l = low h.variable h.there in let same = h.slot in omega (arith, l, same)
+steady_under params bs (point_in s) low h = let l = low h.variable h.there in let same = h.slot in omega (arith, l, same)
+steady_under params bs any_colour low h = tt
+
+-- behind one more name it is the same
+loop_low : (next : ℕ) (bs : List Bound) (i : ℕ) → Falls next bs → (bound_as bs i).by_loop ≡ true → i < next
+loop_low next [] i f e = absurd (false≢true e)
+loop_low next (b ∷ bs) i f e = chosen (b.number == i) refl (loop_low b.number bs i f.1) e
+  where
+    chosen : (c : Bool) → (b.number == i) ≡ c → ((bound_as bs i).by_loop ≡ true → i < b.number) → (cond c b (bound_as bs i)).by_loop ≡ true → i < next
+    chosen true same more e = let one = eqb-true b.number i same in let less = f.0 in omega (arith, one, less)
+    chosen false same more e = let low = more e in let less = f.0 in omega (arith, low, less)
+
+loop_same : (next : ℕ) (bs : List Bound) (b : Bound) (i : ℕ) → Falls next bs → next ≤ b.number → (bound_as bs i).by_loop ≡ true → bound_as bs i ≡ bound_as (b ∷ bs) i
+loop_same next bs b i f new e =
+    let low = loop_low next bs i f e in ap (λ c. cond c b (bound_as bs i)) (sym (ne_eqb b.number i (λ q. omega (arith, low, new, q))))
+
+pub held_more : (params next : ℕ) (bs : List Bound) (b : Bound) (c : WrittenColour) → Falls next bs → next ≤ b.number → IsLoopIn bs c →
+    IsLoopIn (b ∷ bs) c × (held_of params bs c ≡ held_of params (b ∷ bs) c)
+held_more params next bs b (Constant z) f new h = (tt, refl)
+held_more params next bs b (Loop i) f new h =
+    let same = loop_same next bs b i f new h in (
+      subst (λ (c : Bound). c.by_loop ≡ true) same h,
+      ap (λ (c : Bound). held_colour c.static_type (slot_at params c.place)) same,
+    )
+held_more params next bs b Unknown f new h = (tt, refl)
 
 -- ---- slots that stay
 
@@ -202,6 +242,12 @@ colour_taken n vs (the_colour x) z under h = h
 colour_taken n vs (colour_in s) z under h = subst (HasNumber z) (sym (stays_at n vs s under)) h
 colour_taken n vs (point_in s) z under h = subst (HasPoint z) (sym (stays_at n vs s under)) h
 colour_taken n vs any_colour z under h = h
+
+pub colour_untaken : (n : ℕ) (vs : List Value) (c : Colour) (z : ℤ) → IsUnder n c → HasColour (take n vs) c z → HasColour vs c z
+colour_untaken n vs (the_colour x) z under h = h
+colour_untaken n vs (colour_in s) z under h = subst (HasNumber z) (stays_at n vs s under) h
+colour_untaken n vs (point_in s) z under h = subst (HasPoint z) (stays_at n vs s under) h
+colour_untaken n vs any_colour z under h = h
 
 -- a child by such slots
 pub child_taken : (n : ℕ) (vs : List Value) (p : ℕ) (c : Colour) (r : RegionValue) → p < n → IsUnder n c → IsChild vs p c r → IsChild (take n vs) p c r

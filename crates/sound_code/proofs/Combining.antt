@@ -19,11 +19,15 @@ use Rattle.fit_laws.proofs.Held.{none_held, plain_held}
 use Rattle.fit_laws.proofs.Keeping.{are_first, are_others, get_set, get_other, set_mark, stores_behind}
 use Rattle.fit_laws.proofs.Lookup.{value_at, as_long}
 use Rattle.marked_code.specs.Marked.{leads_on, leads_storing, Typed, typed_empty, typed_op, typed_both, typed_into}
-use Rattle.sound_code.specs.Named.{slot_at, Ready}
+use Rattle.sound_code.specs.Named.{slot_at, Ready, loops_in}
 use Rattle.sound_code.specs.Ways.{Way}
 use Rattle.sound_code.proofs.Narrowing.{set_kept}
 use Rattle.sound_code.proofs.Plain.{numeric_plain}
-use Rattle.sound_code.proofs.Steady.{behind_same, between_same, SameParts, steady_holds}
+use Rattle.sound_code.proofs.Steady.{behind_same, between_same, SameParts, steady_holds, behind_loops, other_loops}
+use Rattle.sound_code.proofs.Looping.{no_loop, loop_low, MayStore}
+use Rattle.regent_tree.specs.Lookup.{is_bound}
+use Rattle.regent_tree.specs.Scopes.{bound_to}
+use Rattle.regent_tree.specs.Syntax.{Name}
 
 -- a shape of no region and no partition: a number's, or that of an index space
 pub data IsBare : Shape → Type 0 where
@@ -76,7 +80,8 @@ Keeps m s = (vs : List Value) (v : Value) → Each (λ k. Holds k vs) m.facts �
 pub behind_kept : (way : Way) (params : ℕ) (bs : List Bound) (m : Mark) (s : ℕ) → Ready way params bs m → slot_at params (length bs) ≤ s → Keeps m s
 behind_kept way params bs m s r h vs v k =
     let same = behind_same params (length bs) s vs v r.low h in
-    steady_holds params (length bs) r.low vs (slice_set vs s v) same.0 same.1 m.facts r.facts k
+    steady_holds params (length bs) r.low (loops_in way bs) vs (slice_set vs s v) same.0 same.1
+    (behind_loops params (length bs) s (loops_in way bs) vs v r.low h (loop_low way params m.slots bs r.named)) m.facts r.facts k
 
 -- and where a name's slot is set that holds no region and no partition before and after
 abbrev pub KeepsNumber : Mark → ℕ → Type 0
@@ -84,9 +89,12 @@ KeepsNumber m s = (vs : List Value) (v : Value) →
     ((i : ℕ) → SameParts vs (slice_set vs s v) i) →
     Each (λ k. Holds k vs) m.facts → Each (λ k. Holds k (slice_set vs s v)) m.facts
 
-pub named_kept : (way : Way) (params : ℕ) (bs : List Bound) (m : Mark) (p : ℕ) → Ready way params bs m → KeepsNumber m (slot_at params p)
-named_kept way params bs m p r vs v same k = steady_holds params (length bs) r.low vs (slice_set vs (slot_at params p) v)
-    (between_same params p (length bs) vs v) (λ i l. same (slot_at params i)) m.facts r.facts k
+pub named_kept : (way : Way) (params : ℕ) (bs : List Bound) (m : Mark) (n : Name) → Ready way params bs m → is_bound bs n ≡ true → MayStore way (bound_to bs n) →
+    KeepsNumber m (slot_at params (bound_to bs n).place)
+named_kept way params bs m n r there free vs v same k =
+    let p = (bound_to bs n).place in
+    steady_holds params (length bs) r.low (loops_in way bs) vs (slice_set vs (slot_at params p) v) (between_same params p (length bs) vs v) (λ i l. same (slot_at params i))
+    (other_loops params p (loops_in way bs) vs v (no_loop way params m.slots bs n r.named there free)) m.facts r.facts k
 
 module _ (g : Program) (t : TaskCode) (k : ℕ) where
   -- a piece with some marks

@@ -2,11 +2,11 @@
 -- have names, and of parts, which lie within such.
 use Rattle.std.proofs.Common.{◌≡◌, inl, inr, ℕ, zero, suc, ◌<◌, ◌≤◌, List, Bool, true, false, Option, Some, refl, sym, ap, ◌∙◌, subst, None, ⊎_elim, ◌⊎◌}
 use Rattle.std.specs.Prelude.{slice_get, length}
-use Rattle.std.proofs.lemmas.Bool.{and_parts, false≢true}
+use Rattle.std.proofs.lemmas.Bool.{false≢true}
 use Rattle.std.proofs.lemmas.Option.{same_Some}
 use Rattle.plain_values.proofs.Plain.{option_or_parts}
 use Rattle.regent_tree.proofs.Members.{Has}
-use Rattle.regent_tree.specs.Facts.{are_disjoint, is_certain, is_subregion}
+use Rattle.regent_tree.specs.Facts.{are_disjoint, is_subregion}
 use Rattle.regent_tree.specs.StaticTypes.{place_in, task_named}
 use Rattle.regent_tree.specs.Syntax.{access_expr, an_expr, at_step, Expression, Expressions, Name, no_expr, no_step, TaskTree}
 use Rattle.regent_tree.specs.Typing.{colour_of, is_disjoint, param_types, parent_of}
@@ -46,7 +46,7 @@ use Rattle.fact_laws.specs.Regions.{SharesNoPoint}
 use Rattle.code_rules.specs.Slots.{bound, slot_bound, slot_named, typed, Where}
 use Rattle.code_laws.specs.Simple.{a_partition_type, a_region_type, IsPartition, IsRegion, term_in}
 use Rattle.code_laws.specs.Steps.{Forms, Taking}
-use Rattle.code_laws.specs.Arguments.{AreOneColour, IsCutName, name_at, part_at}
+use Rattle.code_laws.specs.Arguments.{IsCutName, name_at, part_at}
 use Rattle.code_laws.specs.Handing.{told_in}
 use Rattle.code_laws.proofs.LocalGoals.{bound_among}
 use Rattle.code_laws.specs.Typed.{ArePassed, IsCallable}
@@ -61,13 +61,13 @@ use Rattle.sound_code.specs.Ways.{by_rules, opening_facts, origin_in, Tops}
 use Rattle.sound_code.proofs.Wholes.{Asks}
 use Rattle.sound_code.proofs.Accepted.{stands_in}
 use Rattle.sound_code.proofs.ArgumentTypes.{lies_apart, lies_within, ArgumentIs, name_is, parent_is, part_is_at, part_parent, part_term}
-use Rattle.sound_code.proofs.Colours.{colour_at, named_low, slot_low, stays_at}
+use Rattle.sound_code.proofs.Colours.{colour_at, named_low, slot_low, stays_at, colour_steady, IsUnder, steady_under}
 use Rattle.sound_code.proofs.Cuts.{AreCut, place_as}
 use Rattle.sound_code.proofs.Claims.{claims_apart, claims_parted, claims_within, each_claimed, IsClaimed}
 use Rattle.sound_code.proofs.Grounds.{begins_under, HasFacts, high_top, IsSaid, Kept, low_top, OfType, said_of, top_in, top_whole}
 use Rattle.sound_code.proofs.InApart.{in_apart, none_there}
-use Rattle.sound_code.proofs.Siblings.{name_apart, same_child, sibling}
-use Rattle.sound_code.proofs.InSlots.{in_itself, InTerm, lies_named, named_slot, part_in, slot_found, slot_of}
+use Rattle.sound_code.proofs.Siblings.{lies_child}
+use Rattle.sound_code.proofs.InSlots.{in_itself, InTerm, lies_named, named_slot, part_in, slot_found, slot_of, in_below}
 use Rattle.sound_code.proofs.Dividing.{cut_param, cut_region, parent_told}
 use Rattle.sound_code.proofs.Handed.{all_handed, any_given, any_of, argument_at, cut_argument_at, given_cut_is, given_from, IsOf, part_argument_at}
 use Rattle.sound_code.proofs.Interpreting.{meant}
@@ -79,6 +79,8 @@ use Rattle.sound_code.proofs.Under.{under_part}
 use Rattle.sound_code.proofs.Told.{ToldCall}
 use Rattle.sound_code.specs.Named.{AreNamed, slot_at}
 use Rattle.sound_code.proofs.Stood.{IsStood, stood_apart, BeganWhole, IsNamed, named_stood, stood_within}
+use Rattle.sound_code.proofs.Looping.{place_low}
+use Rattle.constraint_check.proofs.Table.{is_subregion-derivable}
 
 module _ (tops : Tops) (task : TaskTree) (t : TaskCode) (w : Where) (kept : Kept t tops task w.tree w.params w.scope) (m : Mark)
     (facts : HasFacts (by_rules tops task) w.tree m.facts) (ep : w.params ≡ t.params) (named : AreNamed (by_rules tops task) w.params m.slots w.scope.names)
@@ -147,6 +149,11 @@ module _ (tops : Tops) (task : TaskTree) (t : TaskCode) (w : Where) (kept : Kept
     name_low n there = subst (λ l. slot_named w n < l) (sym fixed) (slot_low w.params (bound w n).place (length w.scope.names)
         (named_low (by_rules tops task) w.params m.slots w.scope.names n named there))
 
+    -- so does that of a colour
+    colour_low : (e : Expression) → IsUnder m.fixed (colour_at w e)
+    colour_low e = subst (λ l. IsUnder l (colour_at w e)) (sym fixed)
+        (steady_under w.params w.scope.names (colour_at w e) (place_low (by_rules tops task) w.params m.slots w.scope.names named) (colour_steady w e))
+
     seated : (n : Name) → is_bound w.scope.names n ≡ true → IsRegion (bound w n).static_type → (r : RegionValue) →
         region_in (slice_get x.held (slot_named w n)) ≡ Some r → forms.keeps ≡ true → (i : ℕ) → term_in (bound w n).static_type ≡ term.Name i → IsSeated r i
     seated n there is r held q i e =
@@ -167,6 +174,7 @@ module _ (tops : Tops) (task : TaskTree) (t : TaskCode) (w : Where) (kept : Kept
       part : Name × Expression
       at : part_at es k ≡ Some part
       term : term_in u ≡ term.Child (bound w part.0).number (colour_of w.scope part.1)
+      whose : IsCutName w part.0
       child : IsChild x.held (slot_named w part.0) (colour_at w part.1) r
 
     -- the argument for a parameter that is a region
@@ -270,9 +278,9 @@ module _ (tops : Tops) (task : TaskTree) (t : TaskCode) (w : Where) (kept : Kept
             whole = top_whole t tops task w.tree w.params w.scope kept parent (parent_said n a.keeps (part_parent w n a.index a.cut.partition r));
             exact = part_exact (bound w n).number c u v.it (top_in w.params up parent) r term;
           };
-          given_as = inr (record { part = (n, a.index); at = a.at; term = term; child = child });
+          given_as = inr (record { part = (n, a.index); at = a.at; term = term; whose = a.cut; child = child });
           within = λ q. subst (In q v.it) (sym term) (part_in tops task t w kept m facts (scoped q) (cut q) total vs suits.facts n a.index v.it a.cut
-              (name_low n a.cut.named) child);
+              (name_low n a.cut.named) (colour_low a.index) child);
           slot = λ q i e. absurd (subst IsNamed (sym e ∙ term) tt);
           unkept = λ e. absurd (false≢true (sym e ∙ a.keeps));
         }
@@ -280,28 +288,16 @@ module _ (tops : Tops) (task : TaskTree) (t : TaskCode) (w : Where) (kept : Kept
     region_argument : (k : ℕ) → is_region (type_at types k) ≡ true → IsRegionArgument k
     region_argument k e = ⊎_elim (of_name k) (of_part k) (handed_at forms y takes w ts types es passed k e)
 
-    -- ---- a region within another, where pointers are kept
-
-    -- where that is a part that has no name, it is the same one
-    one_part : forms.keeps ≡ true → (a b : Name) → Has callee.clauses (clause.Within a b) → (ra : IsRegionArgument (place_in callee.params a)) (rb : IsRegionArgument (place_in callee.params b)) →
-        is_subregion known (term_in ra.type) (term_in rb.type) ≡ true → IsChildAt (place_in callee.params b) rb.type rb.it → ra.it ≡ rb.it
-    one_part q a b h ra rb lies upper =
-        let o = sibling y w es forms takes q name is a b h upper.part upper.at in
-        let sure = subst (λ z. is_certain z ≡ true) upper.term (and_parts (is_certain (term_in rb.type)) _ lies).0 in
-        ⊎_elim
-        (λ (n : IsNameAt (place_in callee.params a) ra.type). absurd (name_apart es (place_in callee.params a) n.it o.it n.at o.at))
-        (λ (lower : IsChildAt (place_in callee.params a) ra.type ra.it).
-        let same = same_Some lower.part o.it (sym lower.at ∙ o.at) in
-        same_child w x.held lower.part upper.part ra.it rb.it (ap (λ (p : Name × Expression). p.0) same ∙ o.name)
-        (subst (λ (p : Name × Expression). AreOneColour p.1 upper.part.1) (sym same) o.colour) sure lower.child upper.child) ra.given_as
-
-    lies_there : forms.keeps ≡ true → (a b : Name) → Has callee.clauses (clause.Within a b) → (ra : IsRegionArgument (place_in callee.params a)) (rb : IsRegionArgument (place_in callee.params b)) →
-        is_subregion known (term_in ra.type) (term_in rb.type) ≡ true → LiesIn ra.it rb.it
-    lies_there q a b h ra rb lies = ⊎_elim
-        (λ (n : IsNameAt (place_in callee.params b) rb.type).
-        lies_named tops task t w kept m facts (scoped q) (cut q) total vs suits.facts (term_in ra.type) n.number ra.it rb.it (ra.within q) (rb.slot q n.number n.term).0
-        (subst (λ z. is_subregion known (term_in ra.type) z ≡ true) n.term lies))
-        (λ (upper : IsChildAt (place_in callee.params b) rb.type rb.it). subst (LiesIn ra.it) (one_part q a b h ra rb lies upper) (refl, λ p i. i)) rb.given_as
+    -- a part that has no name is the child by its colour within which that is derived to lie
+    lies_part : forms.keeps ≡ true → (ka kb : ℕ) (ra : IsRegionArgument ka) (rb : IsRegionArgument kb) → is_subregion known (term_in ra.type) (term_in rb.type) ≡ true →
+        IsChildAt kb rb.type rb.it → LiesIn ra.it rb.it
+    lies_part q ka kb ra rb lies upper =
+        let n = upper.part.0 in
+        let e = upper.part.1 in
+        let below = (is_subregion-derivable known (term_in ra.type) (term.Child (bound w n).number (colour_of w.scope e))).0
+        (subst (λ z. is_subregion known (term_in ra.type) z ≡ true) upper.term lies) in
+        lies_child w m.fixed vs n e ra.it rb.it upper.whose below.certain (name_low n upper.whose.named) (colour_low e)
+        (in_below tops task t w kept m facts (scoped q) (cut q) total vs suits.facts below.below ra.it (ra.within q)).1.1 upper.child
 
     -- where no pointers are kept none began as a part
     own_number : (u : StaticType) (r : RegionValue) (s : Stood forms u r) → IsRegion u → BeganWhole w.params up u → term_in u ≡ term.Name s.number
@@ -313,12 +309,16 @@ module _ (tops : Tops) (task : TaskTree) (t : TaskCode) (w : Where) (kept : Kept
 
     -- ---- what the called task's head tells
 
-    within_told : (a b : Name) → Has callee.clauses (clause.Within a b) → (ra : IsRegionArgument (place_in callee.params a)) (rb : IsRegionArgument (place_in callee.params b)) →
+    within_told : (a b : Name) (ra : IsRegionArgument (place_in callee.params a)) (rb : IsRegionArgument (place_in callee.params b)) →
         is_subregion known (term_in ra.type) (term_in rb.type) ≡ true → LiesIn ra.it rb.it
-    within_told a b h ra rb lies = of forms.keeps refl
+    within_told a b ra rb lies = of forms.keeps refl
       where
         of : (c : Bool) → forms.keeps ≡ c → LiesIn ra.it rb.it
-        of true q = lies_there q a b h ra rb lies
+        of true q = ⊎_elim
+            (λ (n : IsNameAt (place_in callee.params b) rb.type).
+            lies_named tops task t w kept m facts (scoped q) (cut q) total vs suits.facts (term_in ra.type) n.number ra.it rb.it (ra.within q) (rb.slot q n.number n.term).0
+            (subst (λ z. is_subregion known (term_in ra.type) z ≡ true) n.term lies))
+            (lies_part q (place_in callee.params a) (place_in callee.params b) ra rb lies) rb.given_as
         of false e = stood_within tops task t w kept m facts ep named fixed base vs st knows suits forms ra.type rb.type ra.it rb.it rb.region ra.stood rb.stood (rb.unkept e) lies
 
     apart_there : (ka kb : ℕ) (ra : IsRegionArgument ka) (rb : IsRegionArgument kb) → are_disjoint known (term_in ra.type) (term_in rb.type) ≡ true →
@@ -376,7 +376,7 @@ module _ (tops : Tops) (task : TaskTree) (t : TaskCode) (w : Where) (kept : Kept
           other = rb.it;
           at = rb.at;
           inside = subst (λ (q : RegionValue). LiesIn q rb.it) (same_Some ra.it r (sym ra.at ∙ er))
-              (within_told a b h ra rb lies);
+              (within_told a b ra rb lies);
         }
     fact_told _ (claims_apart a b h pa pb) = λ r q er eq same p ip.
         let ka = place_in callee.params a in

@@ -31,7 +31,7 @@ use Rattle.fit_rules.specs.Marks.{Mark, stacked}
 use Rattle.fit_rules.specs.Fits.{Program}
 use Rattle.fit_rules.specs.Sound.{does_load, settled_number, settled_region}
 use Rattle.fit_laws.proofs.Keeping.{get_other, get_set, set_mark}
-use Rattle.sound_code.specs.Named.{HasPartBeside, HasSlots, IsNumbered, Ready, slot_at}
+use Rattle.sound_code.specs.Named.{HasPartBeside, HasSlots, IsNumbered, Ready, slot_at, loops_in}
 use Rattle.sound_code.proofs.Plain.{plain_origin}
 use Rattle.sound_code.proofs.WholeTasks.{is_value, is_whole_expression}
 use Rattle.sound_code.specs.Ways.{origin_in, shape_in, shape_of, Way}
@@ -51,6 +51,7 @@ use Rattle.sound_code.proofs.Statements.{bind_marked, Followed, new_name, plain_
 use Rattle.sound_code.proofs.Steady.{steady_below}
 use Rattle.sound_code.proofs.Told.{ToldForm, told_heads, told_plain}
 use Rattle.sound_code.proofs.Wholes.{Asks, asks_first, asks_second, begun_worth, IsWorth, kept_of, owned_same, worth_named, worth_numbered}
+use Rattle.sound_code.proofs.Looping.{loop_more}
 
 either : (b : Bool) → (b ≡ true) ⊎ (b ≡ false)
 either true = inl refl
@@ -121,7 +122,7 @@ named_part way params bs m b D V r hi e es nd nv stood =
           get_other first va j V (λ q. omega (arith, q, l, next)) ∙ get_other m.slots be j D (λ q. omega (arith, q, l, next))
           ∙ r.free j (omega (arith, l, next)) (omega (arith, h, long, length-set first va V));
       numbered = numbered_set (b ∷ bs) first va V (numbered_set (b ∷ bs) m.slots be D (each_numbered bs b m.slots r.numbered) nd) nv;
-      facts = steady_below params (length bs) (suc (length bs)) m.facts (omega arith) r.facts;
+      facts = steady_below params (length bs) (suc (length bs)) (loops_in way bs) (loops_in way (b ∷ bs)) m.facts (omega arith) (loop_more way b bs) r.facts;
       low = omega (arith, r.low);
       fixed = refl;
     }

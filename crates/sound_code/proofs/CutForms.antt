@@ -6,7 +6,7 @@ use Rattle.regent_tree.specs.Scopes.{bound_as}
 use Rattle.regent_tree.specs.StaticTypes.{field_place}
 use Rattle.regent_tree.specs.Syntax.{a_link, access_expr, both_initializer, Initializer, by_field_initializer, chain_expr, either_initializer, equal_initializer, Expression, Form, image_initializer, Name, no_link, no_step, plain_initializer, preimage_initializer, var_form}
 use Rattle.regent_tree.specs.Partitions.{both_flag, by_field_flag, either_flag, equal_flag, image_flag, preimage_flag}
-use Rattle.regent_tree.specs.Typing.{is_disjoint, operated, owned, parent_of, var_type}
+use Rattle.regent_tree.specs.Typing.{initializer_type, is_disjoint, operated, owned, parent_of, var_type}
 use Rattle.regent_tree.specs.declared.expression.Arithmetic.TheVariants.{Subtract}
 use Rattle.regent_tree.specs.declared.expression.Operator.TheVariants.{Compute}
 use Rattle.regent_tree.specs.declared.rights.Access.TheVariants as access
@@ -18,7 +18,7 @@ use Rattle.task_code.specs.declared.code.TaskCode.{TaskCode}
 use Rattle.task_code.specs.declared.instr.Instr.TheVariants as instr
 use Rattle.check_laws.proofs.Scopes.{found_by_number}
 use Rattle.code_rules.specs.Expressions.{expr_code}
-use Rattle.code_rules.specs.Initializers.{plain_code}
+use Rattle.code_rules.specs.Initializers.{plain_code, written_code}
 use Rattle.code_rules.specs.Pieces.{op, Piece, ◌⨟◌}
 use Rattle.code_rules.specs.Slots.{bound, slot_bound, slot_named, typed, Where}
 use Rattle.code_rules.specs.Statements.{after_form, form_code}
@@ -36,7 +36,7 @@ use Rattle.fit_rules.specs.Shapes.{Among, partition, Shape, space}
 use Rattle.fit_rules.specs.Marks.{Holds, Mark, parted, stacked, topped, top_parted}
 use Rattle.fit_rules.specs.Fits.{Program}
 use Rattle.fit_rules.specs.Sound.{Allowed, HasRegion}
-use Rattle.sound_code.specs.Named.{HasSlots, is_parted, IsSteady, slot_at}
+use Rattle.sound_code.specs.Named.{HasSlots, is_parted, IsSteady, slot_at, loops_in}
 use Rattle.sound_code.proofs.WholeTasks.{is_whole_expression}
 use Rattle.sound_code.specs.Ways.{Way}
 use Rattle.sound_code.proofs.Asked.{Asked}
@@ -88,7 +88,7 @@ module _ (g : Program) (t : TaskCode) (k slots : ℕ) (have : HasSlots t slots) 
           free = plain.free;
           numbered = plain.numbered;
           facts = (
-            subst (λ y. IsSteady w.params (suc (length names)) (parted slot y)) (sym same) (is_parted (length names) (bound_as names r).place (omega arith) (omega (arith, low))),
+            subst (λ y. IsSteady w.params (suc (length names)) (loops_in way (b ∷ names)) (parted slot y)) (sym same) (is_parted (length names) (bound_as names r).place (omega arith) (omega (arith, low))),
             plain.facts,
           );
           low = plain.low;
@@ -257,6 +257,28 @@ module _ (g : Program) (t : TaskCode) (k slots : ℕ) (have : HasSlots t slots) 
       bind_cut x _ one.disjoint d r (slot_bound w r) (var_form x None (Some (plain_initializer (difference p q)))) _ told (λ y. sym one.is ∙ same ∙ y) one.region refl
       (cut_minus g t k w.line m (slot_named w p) (slot_named w q) (slot_bound w r) None None _ one.disjoint one.shape
       (record { disjoint = two.disjoint; shape = two.shape }) (region_there r one.region) one.fact) room
+
+  -- so where its type is written, which is like that of the first
+  minus_like : (x : Name) (st : TypeTerm) (p q : Name) (u v : StaticType) → ToldForm way w.tree w.scope (var_form x (Some st) (Some (plain_initializer (difference p q)))) →
+      IsPartition u → IsOf p (parent_of u) → is_disjoint (bound w p).static_type ≡ is_disjoint u → IsOf q (parent_of u) → HasRoom →
+      IsLike (var_type w.tree w.scope (Some st) (Some (plain_initializer (difference p q)))) (owned w.scope.next (operated (Compute Subtract) u v)) →
+      Binds (var_form x (Some st) (Some (plain_initializer (difference p q))))
+  minus_like x st p q _ v told (a_partition_type d r i) one same two room like =
+      let form = var_form x (Some st) (Some (plain_initializer (difference p q))) in
+      let is = like_cut _ d r w.scope.next like in
+      subst (λ u. Followed g t k forms.keeps way w.tree w.params (new_name g t k slots have forms way w m asked x u ∷ w.scope.names) m
+      (written_code w u (difference p q) ⨟ op (instr.Store (slot_at w.params (length w.scope.names))) w.line)) (sym is.is)
+      (bind_cut x _ one.disjoint is.flag r (slot_bound w r) form _ told (λ y. sym one.is ∙ same ∙ is.disjoint y) one.region refl
+      (cut_minus g t k w.line m (slot_named w p) (slot_named w q) (slot_bound w r) None None _ one.disjoint one.shape
+      (record { disjoint = two.disjoint; shape = two.shape }) (region_there r one.region) one.fact) room)
+
+  pub minus_said : (x : Name) (st : TypeTerm) (e : Expression) → ToldForm way w.tree w.scope (var_form x (Some st) (Some (plain_initializer e))) → forms.keeps ≡ true →
+      IsDifference w e → IsLike (var_type w.tree w.scope (Some st) (Some (plain_initializer e))) (initializer_type w.tree w.scope w.scope.next (plain_initializer e)) →
+      HasRoom → Binds (var_form x (Some st) (Some (plain_initializer e)))
+  minus_said x st (chain_expr (access_expr p no_step) (a_link (Compute Subtract) (access_expr q no_step) no_link)) told keeps pair like room =
+      minus_like x st p q (bound w p).static_type (bound w q).static_type told pair.first.partition (cut_of p keeps pair.first) refl
+      (subst (IsOf q) (sym pair.parents) (cut_of q keeps pair.second)) room like
+  minus_said x st _ told keeps d like room = absurd d
 
   pub minus_marked : (x : Name) (e : Expression) → ToldForm way w.tree w.scope (var_form x None (Some (plain_initializer e))) → forms.keeps ≡ true →
       IsDifference w e → HasRoom → Binds (var_form x None (Some (plain_initializer e)))

@@ -1,6 +1,6 @@
 -- Of which region a partition is that a name in scope has: its type names the region, which is another name's, and a fact tells
 -- that the partition is of that one. So it is told of a region that began as a part within which other name's it lies.
-use Rattle.std.proofs.Common.{◌≡◌, inl, inr, ℕ, ℤ, ◌<◌, ◌≤◌, List, [], ◌∷◌, Bool, true, false, cond, Option, Some, refl, subst, arith}
+use Rattle.std.proofs.Common.{◌≡◌, inl, inr, ℕ, ◌<◌, ◌≤◌, List, [], ◌∷◌, Bool, true, false, cond, Option, Some, refl, subst, arith}
 use Rattle.std.specs.Prelude.{bytes_eq, length, suc, ◌==◌, ◌||◌}
 use Rattle.std.proofs.lemmas.Bool.{false≢true}
 use Rattle.regent_tree.specs.Lookup.{is_bound}
@@ -9,7 +9,7 @@ use Rattle.regent_tree.specs.Syntax.{Form, Name, TaskTree, Tree}
 use Rattle.regent_tree.specs.declared.typing.Bound.{Bound}
 use Rattle.regent_tree.specs.declared.typing.StaticType.{StaticType}
 use Rattle.regent_tree.proofs.Members.{Has}
-use Rattle.regent_tree.specs.declared.facts.Colour.TheVariants.{Constant}
+use Rattle.regent_tree.specs.declared.facts.Colour.{Colour as WrittenColour}
 use Rattle.regent_tree.specs.declared.facts.Known.{Known}
 use Rattle.regent_tree.specs.declared.facts.Known.TheVariants.{Within}
 use Rattle.regent_tree.specs.declared.facts.Term.TheVariants as term
@@ -18,18 +18,20 @@ use Rattle.check_laws.specs.SoundScopes.{Falls}
 use Rattle.code_laws.specs.Handing.{told_in}
 use Rattle.code_laws.specs.Simple.{IsPartition, IsRegion}
 use Rattle.fit_rules.specs.Shapes.{Among, Shape}
-use Rattle.fit_rules.specs.Marks.{child_in, Fact, in_slot, lies, parted, the_colour}
+use Rattle.fit_rules.specs.Marks.{child_in, Fact, in_slot, lies, parted}
 use Rattle.sound_code.specs.Named.{AreNamed, slot_at}
 use Rattle.sound_code.specs.Ways.{all_made, by_rules, Tops, Way}
 use Rattle.sound_code.proofs.Narrowing.{AtLeast}
 use Rattle.sound_code.proofs.NoCuts.{IsNoCut}
 use Rattle.sound_code.proofs.Scoped.{same_as, same_cut_as}
 use Rattle.sound_code.proofs.Told.{ToldForm}
+use Rattle.sound_code.proofs.Colours.{held_more, held_of, IsLoopIn}
 
--- of a region it is told which child it is of the partition with a number: then the fact says so
+-- of a region it is told which child it is of the partition with a number: then a fact says so
 abbrev pub IsPieceOf : ℕ → List Known → List Fact → List Bound → ℕ → ℕ → Type 0
-IsPieceOf params total ks all place i = (p : ℕ) (z : ℤ) → Has total (Within (term.Name i) (term.Child p (Constant z))) →
-    IsPartition (bound_as all p).static_type × Among ks (lies (in_slot (slot_at params place)) (child_in (slot_at params (bound_as all p).place) (the_colour z)))
+IsPieceOf params total ks all place i = (p : ℕ) (c : WrittenColour) → Has total (Within (term.Name i) (term.Child p c)) →
+    IsPartition (bound_as all p).static_type × IsLoopIn all c
+    × Among ks (lies (in_slot (slot_at params place)) (child_in (slot_at params (bound_as all p).place) (held_of params all c)))
 
 abbrev pub IsCut : ℕ → (ℕ → Option (ℕ × ℕ)) → List Known → List Fact → List Bound → ℕ → StaticType → Type 0
 IsCut params up total ks all place (partition_type d r p) =
@@ -96,7 +98,7 @@ place_as way params ss (b ∷ bs) i a r = chosen (b.number == i) (place_as way p
 module _ (params : ℕ) (up : ℕ → Option (ℕ × ℕ)) (total : List Known) (ks ls : List Fact) (more : AtLeast ks ls) (all : List Bound) where
   is_cut_more : (place : ℕ) (t : StaticType) → IsCut params up total ks all place t → IsCut params up total ls all place t
   is_cut_more place (partition_type d r p) h = (h.0, more _ h.1)
-  is_cut_more place (region_type k sp args (term.Name i)) h = λ q l e. let d = h q l e in (d.0, more _ d.1, λ p z a. let f = d.2 p z a in (f.0, more _ f.1))
+  is_cut_more place (region_type k sp args (term.Name i)) h = λ q l e. let d = h q l e in (d.0, more _ d.1, λ p c a. let f = d.2 p c a in (f.0, f.1, more _ f.2))
   is_cut_more place (region_type k sp args (term.Child p c)) h = tt
   is_cut_more place (integer_type w) h = tt
   is_cut_more place truth_type h = tt
@@ -136,9 +138,12 @@ module _ (next : ℕ) (bs : List Bound) (b : Bound) (falls : Falls next bs) (new
         subst (λ (c : Bound). Among ks (lies (in_slot (slot_at params place)) (in_slot (slot_at params c.place)))) same d.1,
         λ p z a.
             let f = d.2 p z a in
-            let cut = same_cut_as next bs b falls new p f.0 in (
+            let cut = same_cut_as next bs b falls new p f.0 in
+            let held = held_more params next bs b z falls new f.1 in (
               subst (λ (c : Bound). IsPartition c.static_type) cut f.0,
-              subst (λ (c : Bound). Among ks (lies (in_slot (slot_at params place)) (child_in (slot_at params c.place) (the_colour z)))) cut f.1,
+              held.0,
+              subst (λ y. Among ks (lies (in_slot (slot_at params place)) (child_in (slot_at params (bound_as (b ∷ bs) p).place) y))) held.1
+                  (subst (λ (c : Bound). Among ks (lies (in_slot (slot_at params place)) (child_in (slot_at params c.place) (held_of params bs z)))) cut f.2),
             ),
       )
   is_cut_with place (region_type k sp args (term.Child p c)) h = tt

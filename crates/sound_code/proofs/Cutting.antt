@@ -27,12 +27,11 @@ use Rattle.fit_laws.proofs.Held.{none_held, plain_held, region_held}
 use Rattle.fit_laws.proofs.Keeping.{are_first, are_others, get_other, get_set, set_mark}
 use Rattle.fit_laws.proofs.Lookup.{as_long, each_among, set_at, value_at}
 use Rattle.fit_laws.proofs.Pointers.{among_coloured}
-use Rattle.fit_rules.specs.Shapes.{Among, Are, are_more, child_at, ComesFrom, cut_from, Each, held_at, Is, is_cut, IsCutOf, is_number, is_partition, is_region, IsPlain, IsPlainOrigin, IsRegion, Numeric, numeric_index, numeric_integer, numeric_pointer, numeric_truth, Origin, part, partition, region, Shape, space, unknown, World}
+use Rattle.fit_rules.specs.Shapes.{Among, Are, are_more, child_at, ComesFrom, cut_from, Each, held_at, Is, is_cut, IsCutOf, is_number, is_partition, is_region, IsPlain, IsPlainOrigin, IsRegion, Numeric, numeric_index, numeric_integer, numeric_pointer, numeric_truth, Origin, part, partition, region, Shape, space, unknown, World, HasNumber, HasPoint}
 use Rattle.fit_rules.specs.Marks.{any_colour, around, child_in, Colour, colour_in, HasColour, Into, IsChild, Fact, Holds, HoldsTop, in_slot, IsParted, lies, LiesAt, LiesIn, Mark, parted, point_in, stacked, Stores, Suits, the_colour, top_colour, TopFact, top_at, topped, top_parted}
 use Rattle.fit_rules.specs.Fits.{Program}
 use Rattle.fit_rules.specs.Sound.{Allowed, does_colors, does_load_as, HasPartition, HasRegion, settled_cut, settled_region}
 use Rattle.marked_code.specs.Marked.{Leads, leads_child, leads_colouring, leads_cutting, leads_image, leads_join, leads_meet, leads_minus, leads_preimage, leads_storing, typed_from, typed_op}
-use Rattle.sound_code.specs.Named.{IsWrittenColour}
 use Rattle.sound_code.specs.Ways.{shape_in, shape_of, Way}
 use Rattle.sound_code.proofs.Asked.{Asked}
 use Rattle.sound_code.proofs.Colours.{child_taken, IsUnder, stays_at}
@@ -67,15 +66,15 @@ parted_there vs st (value.Space z) s p n l h = absurd h
 parted_there vs st (value.Region z) s p n l h = absurd h
 parted_there vs st (value.Pending z) s p n l h = absurd h
 
--- colours that name no slot
-written_set : (vs us : List Value) (c : Colour) (z : ℤ) → IsWrittenColour c → HasColour vs c z → HasColour us c z
-written_set vs us (the_colour y) z w h = h
-written_set vs us (colour_in s) z w h = absurd w
-written_set vs us (point_in s) z w h = absurd w
-written_set vs us any_colour z w h = h
+-- a colour of slots below another
+written_set : (vs : List Value) (p : ℕ) (v : Value) (c : Colour) (z : ℤ) → IsUnder p c → HasColour vs c z → HasColour (slice_set vs p v) c z
+written_set vs p v (the_colour y) z under h = h
+written_set vs p v (colour_in s) z under h = subst (HasNumber z) (sym (get_other vs p s v (λ e. omega (arith, e, under)))) h
+written_set vs p v (point_in s) z under h = subst (HasPoint z) (sym (get_other vs p s v (λ e. omega (arith, e, under)))) h
+written_set vs p v any_colour z under h = h
 
 -- a child of a partition is that, in a slot, and lies within the region in another of which the partition is
-piece_there : (vs st : List Value) (v : Value) (q s p : ℕ) (c : Colour) → (p ≡ s → ⊥) → (p ≡ q → ⊥) → p < length vs → IsWrittenColour c → Holds (parted q s) vs →
+piece_there : (vs st : List Value) (v : Value) (q s p : ℕ) (c : Colour) → (p ≡ s → ⊥) → (p ≡ q → ⊥) → p < length vs → IsUnder p c → Holds (parted q s) vs →
     HoldsTop (top_at (child_in q c)) vs (v ∷ st) →
     Holds (lies (in_slot p) (child_in q c)) (slice_set vs p v) × Holds (lies (in_slot p) (in_slot s)) (slice_set vs p v)
 piece_there vs st (value.Region r) q s p c n o l written parts h = (
@@ -85,7 +84,7 @@ piece_there vs st (value.Region r) q s p c n o l written parts h = (
       parts = h.parts;
       there = ap partition_in (get_other vs p q (value.Region r) o) ∙ h.there;
       colour = h.colour;
-      has_colour = written_set vs (slice_set vs p (value.Region r)) c h.colour written h.has_colour;
+      has_colour = written_set vs p (value.Region r) c h.colour written h.has_colour;
       child = h.child;
     };
     inside = subst (λ y. LiesIn y r) (same_Some r d (sym (ap region_in (get_set vs p (value.Region r) l)) ∙ e)) (refl, λ i y. y);
@@ -138,7 +137,7 @@ module _ (g : Program) (t : TaskCode) (k line : ℕ) (m : Mark) where
       storing_known p a b (top_parted s) (parted p s ∷ []) kept lo hi plain h (λ vs st v l all top. (parted_there vs st v s p n l top, tt))
 
   -- a child of a partition, of the region in a slot, lies within that, and is known as that child
-  pub storing_piece : (s q p : ℕ) (c : Colour) (a b : Shape) → Keeps m p → t.params ≤ p → p < length m.slots → (p ≡ s → ⊥) → (p ≡ q → ⊥) → IsWrittenColour c → IsPlain b →
+  pub storing_piece : (s q p : ℕ) (c : Colour) (a b : Shape) → Keeps m p → t.params ≤ p → p < length m.slots → (p ≡ s → ⊥) → (p ≡ q → ⊥) → IsUnder p c → IsPlain b →
       Among m.facts (parted q s) → ((x : World) (v : Value) → Is x a v → Is x b v) →
       Marked g t k (topped m (a ∷ []) (top_at (child_in q c))) (op (instr.Store p) line)
       (knowing (lies (in_slot p) (child_in q c)) (knowing (lies (in_slot p) (in_slot s)) (set_mark m p b [])))

@@ -34,7 +34,7 @@ use Rattle.fit_rules.specs.Fits.{Program}
 use Rattle.fit_rules.specs.Sound.{does_num, does_load, does_negate, does_invert, does_space}
 use Rattle.marked_code.specs.Marked.{leads_waiting, typed_op, typed_and, typed_or}
 use Rattle.fit_laws.proofs.Keeping.{get_set, set_mark}
-use Rattle.sound_code.specs.Named.{slot_at, HasSlots}
+use Rattle.sound_code.specs.Named.{slot_at, HasSlots, loops_in}
 use Rattle.sound_code.specs.Ways.{Way, shape_of}
 use Rattle.sound_code.proofs.Granting.{allowed, May}
 use Rattle.sound_code.proofs.WholeTasks.{are_whole_arguments, are_whole_links, is_whole_expression, names_region, takes_part}
@@ -56,7 +56,7 @@ use Rattle.regent_tree.specs.declared.rights.Access.TheVariants.{Read}
 use Rattle.fit_rules.specs.Sound.{Allowed}
 use Rattle.code_laws.specs.Typed.{IsAnyField}
 use Rattle.sound_code.proofs.Asked.{Asked}
-use Rattle.sound_code.proofs.Calling.{onto, scalar_numeric}
+use Rattle.sound_code.proofs.Calling.{onto, scalar_numeric, zero_numeric}
 use Rattle.sound_code.proofs.Combining.{Marked, nothing_done, both, does, into, behind_kept, slot_high, storing}
 use Rattle.sound_code.proofs.Elements.{reads}
 use Rattle.sound_code.proofs.Further.{behind_further, point_further, told_point}
@@ -159,7 +159,7 @@ module _ (g : Program) (t : TaskCode) (k slots : ℕ) (have : HasSlots t slots) 
       (record {
         marks = _;
         is = typed_op _ _ _ w.line (leads_waiting (set_mark m s (awaited r) us) s r (get_set m.slots s (awaited r) hi) nr
-            (steady_stand w.params (length w.scope.names) _ m.facts ready.facts));
+            (steady_stand w.params (length w.scope.names) (loops_in way w.scope.names) _ m.facts ready.facts));
       }))
       (narrow_over t.params (set_mark m s (awaited r) us) m (r ∷ us) refl
       (narrow_set m.slots m.slots s (awaited r) (narrow_itself m.slots) (inl (ready.free s low hi))) (same_facts _ _ refl))
@@ -226,7 +226,7 @@ module _ (g : Program) (t : TaskCode) (k slots : ℕ) (have : HasSlots t slots) 
         let place = place_of_task w.tree task in
         let types = param_types w.tree u in
         let same = asked.known.results place u fine.2.0 in
-        let nr : Numeric (g.results place) = subst Numeric (sym same) (scalar_numeric _ fine.1) in
+        let nr : Numeric (g.results place) = subst Numeric (sym same) (zero_numeric _ fine.1) in
         subst (λ y. Goes us (expr_code w d (call_expr task args)) (y ∷ us)) same
         (both g t k (args_marked d (params_at w.tree w.scope u args) types args us fine.3 whole (told_call w.tree w.scope way task args told) pc st.0)
         (both g t k (calls g t k slots forms way w m asked task (params_at w.tree w.scope u args) args us fine.2 fine.3 whole (told_called w.tree w.scope way task args told))

@@ -41,6 +41,7 @@ use Rattle.sound_code.proofs.Expressions.{stored}
 use Rattle.sound_code.proofs.Placing.{named_at}
 use Rattle.sound_code.proofs.Narrowing.{narrow_itself, narrow_set, narrow_into, same_facts}
 use Rattle.sound_code.proofs.Combining.{bare_number, KeepsNumber, Marked, both, does, into, behind_kept, keeping, slot_high, storing}
+use Rattle.sound_code.proofs.Looping.{MayStore}
 
 abbrev IsAny : Shape → Type 0
 IsAny anything = Unit {0}
@@ -115,16 +116,16 @@ module _ (g : Program) (t : TaskCode) (k slots : ℕ) (have : HasSlots t slots) 
 
   -- a number is folded into a variable of an integer type
   pub folded : (w : Where) (m : Mark) (x : Name) (o : Op) (s : Shape) (u : StaticType) → (bound w x).static_type ≡ u → Numeric s →
-      IsInteger u → is_bound w.scope.names x ≡ true → Asked g t k slots forms way w m → (pc : ℕ) →
+      IsInteger u → is_bound w.scope.names x ≡ true → MayStore way (bound w x) → Asked g t k slots forms way w m → (pc : ℕ) →
       Stands t.body pc (fold_code w (slot_named w x) o (width_of_type u)) →
       Marked g t k (stacked m (s ∷ [])) (fold_code w (slot_named w x) o (width_of_type u)) (stacked m [])
-  folded w m x o s _ e ns (an_integer v) b a pc st = by o pc st
+  folded w m x o s _ e ns (an_integer v) b free a pc st = by o pc st
     where
       there : slice_get m.slots (slot_named w x) ≡ Some (integer v)
       there = named_at way w.params m.slots w.scope.names x a.ready.named b ∙ ap (λ y. Some (shape_in way w.params y)) e
 
       kept : KeepsNumber m (slot_named w x)
-      kept = named_kept way w.params w.scope.names m (bound w x).place a.ready
+      kept = named_kept way w.params w.scope.names m x a.ready b free
 
       by : (o : Op) (pc : ℕ) → Stands t.body pc (fold_code w (slot_named w x) o v) →
           Marked g t k (stacked m (s ∷ [])) (fold_code w (slot_named w x) o v) (stacked m [])

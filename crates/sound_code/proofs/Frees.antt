@@ -6,7 +6,7 @@ use Rattle.std.proofs.lemmas.Bool.{and_parts, false≢true, or_left, or_right}
 use Rattle.regent_tree.specs.Execution.{before_last}
 use Rattle.regent_tree.specs.StaticTypes.{task_named}
 use Rattle.regent_tree.specs.Syntax.{a_link, a_statement, access_expr, an_arm, an_expr, Arms, assert_form, assign_form, at_step, Block, both_initializer, by_field_initializer, call_expr, call_form, cast_expr, chain_expr, convert_expr, do_form, either_initializer, else_block, equal_initializer, Expression, Expressions, field_step, fill_form, for_in_form, for_to_form, Form, if_form, image_initializer, is_null_expr, Links, Name, no_arm, no_else, no_expr, no_link, no_statement, no_step, null_expr, number_expr, Otherwise, plain_initializer, prefix_expr, preimage_initializer, print_form, region_initializer, return_form, space_expr, Steps, TaskTree, then_statement, Tree, truth_expr, var_form, while_form}
-use Rattle.regent_tree.specs.Typing.{arithmetic_type, operated, owned, param_types, taken_from, var_type}
+use Rattle.regent_tree.specs.Typing.{arithmetic_type, initializer_type, operated, owned, param_types, taken_from, var_type}
 use Rattle.regent_tree.specs.declared.expression.Arithmetic.TheVariants.{Subtract}
 use Rattle.regent_tree.specs.declared.expression.Operator.TheVariants.{And, Compare, Compute, Or}
 use Rattle.regent_tree.specs.declared.statement.How.TheVariants as how
@@ -18,16 +18,16 @@ use Rattle.code_rules.specs.Slots.{bound, typed, Where}
 use Rattle.code_rules.specs.Statements.{after_arm, after_arms, after_form, looping, on_line}
 use Rattle.statement_laws.specs.WrittenStatements.{names_field}
 use Rattle.local_form.specs.LocalForm.{are_fields}
-use Rattle.code_laws.specs.Pointers.{IsCounting}
+use Rattle.code_laws.specs.Pointers.{BeginsWith, IsCounting, IsLike}
 use Rattle.code_laws.specs.Simple.{a_partition_type, IsPartition}
 use Rattle.code_laws.specs.Steps.{Forms}
 use Rattle.code_laws.specs.Typed.{BeginsAsPart, AreFilled, AreNumbers, ArePassed, AreTypedArms, AreTypedLinks, IsBegun, IsDifference, IsIndexed, IsKeepable, IsLooped, IsNamedRegion, IsPassed, IsTyped, IsTypedBlock, IsTypedElse, IsTypedForm, LoopsOver, LoopsOverPart}
 use Rattle.code_laws.proofs.Arguments.{given_by, handed_name, IsCutArgument, IsPartArgument}
-use Rattle.code_laws.proofs.Wider.{assigned, beginning, begun, compared, counting, filling, loops_over, looped_over, passing, signed_as, zeroed}
+use Rattle.code_laws.proofs.Wider.{assigned, beginning, begun, compared, counting, filling, loops_over, looped_over, passing, signed_as, zeroed, said_either}
 use Rattle.sound_code.specs.FilledFields.{arms_name_fields, block_names_fields, else_names_fields, form_names_fields, names_fields, task_names_fields}
 use Rattle.sound_code.proofs.WholeTasks.{are_whole_arguments, are_whole_arms, are_whole_expressions, are_whole_links, is_value, is_whole_block, is_whole_domain, is_whole_else, is_whole_expression, is_whole_form, is_whole_program, is_whole_task, names_region, takes_part}
 use Rattle.sound_code.proofs.Truths.{both_true}
-use Rattle.sound_code.proofs.Values.{IsValue, integer_value, truth_value, space_value, pointer_value, counting_value, kept_value, alike_values, passed_values, assigned_values, begins_values, itself_value, filled_value, compared_values, signed_value, region_sort, regions_sort, partition_sort}
+use Rattle.sound_code.proofs.Values.{IsValue, integer_value, truth_value, space_value, pointer_value, counting_value, kept_value, into_values, passed_values, assigned_values, begins_values, itself_value, filled_value, compared_values, signed_value, region_sort, regions_sort, partition_sort}
 use Rattle.sound_code.proofs.Wholes.{kept_of, owned_same}
 
 -- ---- expressions
@@ -193,8 +193,14 @@ module _ (forms : Forms) (keeps : forms.keeps ≡ true) where
     form_whole w (var_form n None (Some (plain_initializer e))) f h = begun_whole w e f
     form_whole w (var_form n (Some t) (Some (plain_initializer e))) f h =
         let u = var_type w.tree w.scope (Some t) (Some (plain_initializer e)) in
-        let both = begins_values w.scope.names (typed w e) u (beginning forms.keeps w.scope.names (typed w e) u f.0) in
-        both_true (is_value false u) (is_whole_expression false w e) both.1 (expr_whole w e f.1 both.0)
+        ⊎_elim
+        (λ (b : BeginsWith forms.keeps w.scope.names (typed w e) u × IsTyped forms w e).
+        let both = begins_values w.scope.names (typed w e) u (beginning forms.keeps w.scope.names (typed w e) u b.0) in
+        or_right (is_partition (typed w e)) _ (both_true (is_value false u) (is_whole_expression false w e) both.1 (expr_whole w e b.1 both.0)))
+        (λ (d : IsDifference w e × IsLike u (initializer_type w.tree w.scope w.scope.next (plain_initializer e))).
+        or_left (is_partition (typed w e)) _ (difference_sort w e d.0))
+        (said_either forms.keeps w e (BeginsWith forms.keeps w.scope.names (typed w e) u × IsTyped forms w e)
+        (IsLike u (initializer_type w.tree w.scope w.scope.next (plain_initializer e))) f)
     form_whole w (var_form n None (Some (region_initializer e u))) f h = expr_whole w e f.2 (space_value _ f.1)
     form_whole w (var_form n None (Some (equal_initializer r e))) f h = expr_whole w e f.2 (space_value _ f.1)
     form_whole w (var_form n None (Some (by_field_initializer r l e))) f h = expr_whole w e f.2 (space_value _ f.1)
@@ -258,7 +264,7 @@ module _ (forms : Forms) (keeps : forms.keeps ≡ true) where
         (expr_whole w e point.0 (counting_value _ point.1))
         (expr_whole w y f.3 (integer_value _ f.1))
     form_whole w (return_form None) f h = refl
-    form_whole w (return_form (Some e)) f h = expr_whole w e f.1 (alike_values _ _ f.0).0
+    form_whole w (return_form (Some e)) f h = expr_whole w e f.1 (into_values _ _ f.0.0).0
     form_whole w _ f h = absurd f
 
     block_whole : (w : Where) (b : Block) → IsTypedBlock forms w b → block_names_fields b ≡ true → is_whole_block false w b ≡ true

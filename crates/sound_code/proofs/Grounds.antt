@@ -15,7 +15,7 @@ use Rattle.regent_tree.specs.declared.typing.StaticType.TheVariants.{Region as r
 use Rattle.regent_tree.specs.Scopes.{Scope, scope_of}
 use Rattle.regent_tree.specs.Syntax.{Tree, TaskTree}
 use Rattle.code_laws.proofs.KnownHeads.{KnowsFacts}
-use Rattle.local_form.specs.LocalForm.{Marked, unmarked}
+use Rattle.local_form.specs.LocalForm.{unmarked}
 use Rattle.regent_tree.proofs.Members.{Has}
 use Rattle.task_code.specs.declared.code.TaskCode.{TaskCode}
 use Rattle.check_rules.specs.scopes.Sound.{IsSound, IsSoundTask}
@@ -83,10 +83,6 @@ IsPlaced params b = OfType params b.place b.static_type
 
 -- ---- a place
 
--- marks by which variables may begin as parts
-abbrev pub with_parts : Marked
-with_parts = record unmarked { parts = true }
-
 pub record Kept (t : TaskCode) (tops : Tops) (task : TaskTree) (tree : Tree) (params : ℕ) (s : Scope) : Type 0 where
   pub sound : IsSound tree
   pub sound_task : IsSoundTask tree task
@@ -99,7 +95,7 @@ pub record Kept (t : TaskCode) (tops : Tops) (task : TaskTree) (tree : Tree) (pa
   pub next : params ≤ s.next
   pub placed : Each (IsPlaced params) s.names
   pub begun : (k : Known) → Has (scope_of tree task).known k → IsTold params (tops task) (opening_facts (by_rules tops task) tree task) k
-  pub head : KnowsFacts with_parts tree task s
+  pub head : KnowsFacts unmarked tree task s
 
 abbrev pub Ground : TaskCode → Way → Tree → ℕ → Scope → Type 0
 Ground t all_made tree params s = Unit {0}

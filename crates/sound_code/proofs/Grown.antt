@@ -21,7 +21,8 @@ use Rattle.code_laws.specs.Simple.{IsRegion, term_in, simple_integer, simple_tru
 use Rattle.fit_rules.specs.Marks.{Fact}
 use Rattle.sound_code.specs.Ways.{Tops, Way, all_made, by_rules, opening_facts}
 use Rattle.sound_code.proofs.Wholes.{IsWorth, worth_pointer, worth_simple}
-use Rattle.sound_code.proofs.Grounds.{BeginsUnder, BeginsWholly, Ground, HasSaid, IsBegun, IsSaid, IsTold, Kept, OfType, said_begun, said_made, said_of, tells_begun, tells_made, tells_part, top_whole, with_parts}
+use Rattle.sound_code.proofs.Grounds.{BeginsUnder, BeginsWholly, Ground, HasSaid, IsBegun, IsSaid, IsTold, Kept, OfType, said_begun, said_made, said_of, tells_begun, tells_made, tells_part, top_whole}
+use Rattle.local_form.specs.LocalForm.{unmarked}
 
 -- names that were bound before others are among these
 grown_has : {before after : List Bound} → Grown before after → (b : Bound) → Has before b → Has after b
@@ -101,7 +102,7 @@ module _ (t : TaskCode) (tops : Tops) (task : TaskTree) (tree : Tree) (params : 
   kept_named : (s : Scope) (n : Named) (u : StaticType) (by_loop : Bool) (more : List Known) → Kept t tops task tree params s →
       OfType params (length s.names) u → HasSaid params (s.known ++ more) u → ((k : Known) → Has more k → IsTold params up ks k) →
       ((i p : ℕ) (c : Colour) → Has more (Within (Name i) (Child p c)) → IsBegun params up (s.known ++ more) i p) →
-      KnowsFacts with_parts tree task (knowing (with_name s n u by_loop) more) → Kept t tops task tree params (knowing (with_name s n u by_loop) more)
+      KnowsFacts unmarked tree task (knowing (with_name s n u by_loop) more) → Kept t tops task tree params (knowing (with_name s n u by_loop) more)
   kept_named s n u by_loop more h o said tells begins head = record {
     sound = h.sound;
     sound_task = h.sound_task;
@@ -250,7 +251,7 @@ module _ (t : TaskCode) (tree : Tree) (params : ℕ) where
       (λ y i. ⊎_elim (λ e. subst (IsTold params (tops task) _) e (tells_begun s.next p _ c low under)) (λ b. absurd b) i)
       (λ i q f a. ⊎_elim (λ e. subst (λ k. IsBegun params (tops task) (s.known ++ more) k q) (ap lower_in e)
       (subst (IsBegun params (tops task) (s.known ++ more) s.next) (ap cut_in e) begun)) (λ b. absurd b) a)
-      (head_piece tree task s n (region_type k sp args (Name s.next)) p c refl refl g.head)
+      (head_piece tree task s n (region_type k sp args (Name s.next)) p c refl g.head)
     where
       lower_in : Known → ℕ
       lower_in (Within (Name i) b) = i

@@ -7,6 +7,7 @@ use Rattle.lane_kernels.specs.declared.numbers.Width.TheVariants.{W64}
 use Rattle.code_laws.proofs.Under.{made_may, taken_may}
 use Rattle.code_laws.specs.Handing.{AreTypedBy, IsTypedBy}
 use Rattle.code_laws.specs.Programs.{gives_nothing, gives_scalar}
+use Rattle.code_laws.specs.Pointers.{fills_alike, into_plain, zero_scalar}
 use Rattle.code_laws.specs.Simple.{a_region_type, a_space_type, an_integer, fits_64, number_integer, scalar_integer, simple_integer, two_integers, two_regions}
 use Rattle.fit_rules.specs.Shapes.{Are, are_more, are_none, integer, IsRegion, is_number, is_region, argument}
 use Rattle.fit_rules.specs.Ends.{called}
@@ -26,7 +27,7 @@ tasks zero t e = subst (IsTypedBy true false hands_program) (same_Some _ t e) (r
   given = gives_scalar _ (scalar_integer _);
   typed = (
     (
-      two_integers _ _,
+      (into_plain _ _ (fills_alike _ _ (two_integers _ _)), zero_scalar _ (scalar_integer _)),
       (omega (arith, ints), number_integer _, refl, record { named = refl; region = a_region_type _ _ _ _; field = omega arith; keeps = fits_64 }, taken_may _ _ 0 mode.Read (omega arith) refl),
     ),
     tt,
@@ -42,7 +43,7 @@ tasks (suc zero) t e = subst (IsTypedBy true false hands_program) (same_Some _ t
         -- the regions are handed on
         (
           refl,
-          scalar_integer _,
+          zero_scalar _ (scalar_integer _),
           (refl, ((refl, a_region_type _ _ _ _, omega arith, taken_may _ _ 0 mode.Read (omega arith) refl), tt), tt, (tt, (tt, tt)), (tt, (tt, tt))),
           (inr (inl (refl, refl, two_regions _ _ _ _ _ _ _)), (inr (inl (refl, refl, two_regions _ _ _ _ _ _ _)), tt)),
         ),
@@ -61,9 +62,9 @@ tasks (suc zero) t e = subst (IsTypedBy true false hands_program) (same_Some _ t
 tasks (suc (suc zero)) t e = subst (IsTypedBy true false hands_program) (same_Some _ t e) (record {
   given = gives_nothing;
   typed = (
-    (refl, a_space_type _, (omega (arith, ints), an_integer _), record { there = omega arith; few = omega arith }, (omega arith, refl)),
+    (refl, a_space_type _, (omega (arith, ints), an_integer _), record { there = omega arith; few = omega arith }, (omega arith, refl, refl)),
     (
-      (refl, a_space_type _, (omega (arith, ints), an_integer _), record { there = omega arith; few = omega arith }, (omega arith, refl)),
+      (refl, a_space_type _, (omega (arith, ints), an_integer _), record { there = omega arith; few = omega arith }, (omega arith, refl, refl)),
       (
         -- the roots are handed over
         (

@@ -14,7 +14,7 @@ use Rattle.task_code.specs.declared.code.TaskCode.{TaskCode}
 use Rattle.machine_terms.specs.declared.value.Value.TheVariants.{Number}
 use Rattle.code_rules.specs.Instructions.{tasks_of}
 use Rattle.code_rules.specs.Programs.{code_of, task_code}
-use Rattle.code_laws.specs.Programs.{gives_nothing, gives_scalar, IsGiven}
+use Rattle.code_laws.specs.Programs.{gives_index, gives_nothing, gives_scalar, IsGiven}
 use Rattle.code_laws.specs.Simple.{scalar_integer, scalar_truth}
 use Rattle.code_laws.specs.Steps.{Forms}
 use Rattle.fit_rules.specs.Shapes.{NumberIs}
@@ -45,6 +45,7 @@ zero_fits W64 = omega (arith, ints)
 zero_given : (t : StaticType) → IsGiven t → NumberIs (shape_of t) (pos 0)
 zero_given _ (gives_scalar _ (scalar_integer w)) = zero_fits w
 zero_given _ (gives_scalar _ scalar_truth) = inl refl
+zero_given _ (gives_index k) = zero_fits W64
 zero_given _ gives_nothing = tt
 
 module _ (tree : Tree) (g : Program) (code : g.code ≡ code_of tree)

@@ -11,7 +11,6 @@ use Rattle.regent_tree.specs.Scopes.{bound_as}
 use Rattle.regent_tree.specs.Syntax.{Expression, Name, TaskTree}
 use Rattle.regent_tree.specs.Typing.{colour_of}
 use Rattle.regent_tree.specs.declared.facts.Colour.{Colour}
-use Rattle.regent_tree.specs.declared.facts.Colour.TheVariants.{Constant, Loop, Unknown}
 use Rattle.regent_tree.specs.declared.facts.Known.{Known}
 use Rattle.regent_tree.specs.declared.facts.Known.TheVariants.{PartOf, Within}
 use Rattle.regent_tree.specs.declared.facts.Term.{Term}
@@ -35,11 +34,11 @@ use Rattle.code_laws.specs.Simple.{a_region_type, IsPartition, IsRegion, term_in
 use Rattle.fit_laws.proofs.Lookup.{each_among}
 use Rattle.fit_laws.proofs.Pointers.{among_coloured}
 use Rattle.fit_rules.specs.Shapes.{Among, Each}
-use Rattle.fit_rules.specs.Marks.{child_in, Fact, HasColour, Holds, in_slot, IsChild, lies, LiesAt, LiesIn, Mark, parted, the_colour}
+use Rattle.fit_rules.specs.Marks.{child_in, Fact, HasColour, Holds, in_slot, IsChild, lies, LiesAt, LiesIn, Mark, parted}
 use Rattle.marked_code.proofs.Placed.{below}
 use Rattle.sound_code.specs.Named.{slot_at}
 use Rattle.sound_code.specs.Ways.{by_rules, opening_facts, Tops}
-use Rattle.sound_code.proofs.Colours.{child_there, colour_at, constant_at}
+use Rattle.sound_code.proofs.Colours.{child_there, colour_at, colour_held, colour_untaken, held_of, IsUnder}
 use Rattle.sound_code.proofs.Cuts.{AreCut, cut_has, cut_named, IsCut, IsPieceOf}
 use Rattle.sound_code.proofs.Grounds.{begins_under, HasFacts, IsTold, Kept, OfType, tells_begun, tells_within, top_in}
 use Rattle.sound_code.proofs.Interpreting.{not_below}
@@ -110,11 +109,9 @@ module _ (tops : Tops) (task : TaskTree) (t : TaskCode) (w : Where) (kept : Kept
     pub inside : LiesIn r other
     pub named : w.params ≤ i → IsRegion (bound_as names i).static_type
 
-  -- so by a term: a part lies within the region of which its partition is, and by a number that is written within that child
+  -- so by a term: a part lies within the region of which its partition is, and within the child of its colour
   abbrev pub InChild : RegionValue → ℕ → Colour → Type 0
-  InChild r p (Constant z) = IsPartition (bound_as names p).static_type × LiesAt vs r (child_in (slot_bound w p) (the_colour z))
-  InChild r p (Loop i) = Unit {0}
-  InChild r p Unknown = Unit {0}
+  InChild r p c = IsPartition (bound_as names p).static_type × LiesAt vs r (child_in (slot_bound w p) (held_of w.params names c))
 
   abbrev pub InTerm : RegionValue → Term → Type 0
   InTerm r (term.Name i) = IsInSlot r i
@@ -165,13 +162,11 @@ module _ (tops : Tops) (task : TaskTree) (t : TaskCode) (w : Where) (kept : Kept
   )
     where
       child_of : (c : Colour) → Has known (Within (term.Name i) (term.Child p c)) → InChild r p c
-      child_of (Constant z) has =
-          let f = (step i k.0 k.1 (q.named high) high e).pieces p z (told (Within (term.Name i) (term.Child p (Constant z))) has) in
-          let o = each_among (λ k. Holds k vs) m.facts (lies (in_slot (slot_bound w i)) (child_in (slot_bound w p) (the_colour z))) f.1 holds q.other
+      child_of c has =
+          let f = (step i k.0 k.1 (q.named high) high e).pieces p c (told (Within (term.Name i) (term.Child p c)) has) in
+          let o = each_among (λ k. Holds k vs) m.facts (lies (in_slot (slot_bound w i)) (child_in (slot_bound w p) (held_of w.params names c))) f.2 holds q.other
           (subst (λ s. region_in (slice_get vs s) ≡ Some q.other) (high_slot i high) q.at) in
           (f.0, record { other = o.other; at = o.at; inside = lies_through r q.other o.other q.inside o.inside })
-      child_of (Loop n) has = tt
-      child_of Unknown has = tt
 
   -- what is derived of terms holds of what lies within them
   pub in_below : {a b : Term} → IsBelow known a b → (r : RegionValue) → InTerm r a → InTerm r b
@@ -196,9 +191,9 @@ module _ (tops : Tops) (task : TaskTree) (t : TaskCode) (w : Where) (kept : Kept
       subst (LiesIn r) (same_Some o.other q (sym o.at ∙ at)) o.inside
 
   -- a part of a partition that has a name lies within the region of which that is
-  pub part_in : (n : Name) (e : Expression) (r : RegionValue) → IsCutName w n → slot_named w n < m.fixed →
+  pub part_in : (n : Name) (e : Expression) (r : RegionValue) → IsCutName w n → slot_named w n < m.fixed → IsUnder m.fixed (colour_at w e) →
       IsChild (take m.fixed vs) (slot_named w n) (colour_at w e) r → InTerm r (term.Child (bound w n).number (colour_of w.scope e))
-  part_in n e r cut low it = (
+  part_in n e r cut low under it = (
     λ z d h.
         let found = partition_found names number (subst (λ (b : Bound). IsPartition b.static_type) (sym at) cut.partition) in
         let type : (bound w n).static_type ≡ partition_type d z number =
@@ -211,7 +206,7 @@ module _ (tops : Tops) (task : TaskTree) (t : TaskCode) (w : Where) (kept : Kept
           inside = o.inside r (among_coloured it.parts.children it.colour r it.child);
           named = λ l. is.0;
         },
-    child_of (colour_of w.scope e) refl,
+    child_of,
   )
     where
       number : ℕ
@@ -223,8 +218,8 @@ module _ (tops : Tops) (task : TaskTree) (t : TaskCode) (w : Where) (kept : Kept
       there : partition_in (slice_get vs (slot_named w n)) ≡ Some it.parts
       there = child_there m.fixed vs (slot_named w n) low (colour_at w e) r it
 
-      child_of : (c : Colour) → colour_of w.scope e ≡ c → InChild r number c
-      child_of (Constant z) equal = (
+      child_of : InChild r number (colour_of w.scope e)
+      child_of = (
         subst (λ (b : Bound). IsPartition b.static_type) (sym at) cut.partition,
         record {
           other = r;
@@ -232,14 +227,12 @@ module _ (tops : Tops) (task : TaskTree) (t : TaskCode) (w : Where) (kept : Kept
             parts = it.parts;
             there = subst (λ (b : Bound). partition_in (slice_get vs (slot_at w.params b.place)) ≡ Some it.parts) (sym at) there;
             colour = it.colour;
-            has_colour = subst (λ c. HasColour (take m.fixed vs) c it.colour) (constant_at w e z equal) it.has_colour;
+            has_colour = subst (λ c. HasColour vs c it.colour) (colour_held w e cut.numbers).1 (colour_untaken m.fixed vs (colour_at w e) it.colour under it.has_colour);
             child = it.child;
           };
           inside = (refl, λ p y. y);
         },
       )
-      child_of (Loop i) equal = tt
-      child_of Unknown equal = tt
 
   -- the slot of a name in scope
   pub named_slot : (n : Name) (i : ℕ) → Falls w.scope.next names → is_bound names n ≡ true → IsRegion (bound w n).static_type → term_in (bound w n).static_type ≡ term.Name i →

@@ -3,6 +3,7 @@ pub mod Grounds
 pub mod Grown
 pub mod Under
 pub mod Steady
+pub mod Looping
 pub mod Plain
 pub mod Colours
 pub mod Narrowing
@@ -58,6 +59,7 @@ pub mod Statements
 pub mod Below
 pub mod CutForms
 pub mod Started
+pub mod Saying
 pub mod Pieces
 pub mod Rounds
 pub mod Loops

@@ -32,7 +32,7 @@ use Rattle.marked_code.specs.Marked.{leads_coloured, leads_loaded, leads_pointed
 use Rattle.fit_rules.specs.Fits.{Program}
 use Rattle.sound_code.specs.Ways.{by_rules, origin_in, shape_in, shape_of, Way}
 use Rattle.sound_code.proofs.Asked.{Asked, ruled}
-use Rattle.sound_code.proofs.Colours.{colour_at, held_colour, IsUnder, named_low, slot_low, written_colour}
+use Rattle.sound_code.proofs.Colours.{colour_at, held_colour, IsUnder, named_low, slot_low}
 use Rattle.sound_code.proofs.Combining.{both, into, Marked, nothing_done}
 use Rattle.sound_code.proofs.Plain.{plain_origin}
 use Rattle.sound_code.proofs.Counting.{counted_numeric, standing_counted}
@@ -173,21 +173,6 @@ module _ (g : Program) (t : TaskCode) (k slots : ℕ) (forms : Forms) (way : Way
   coloured d us (null_expr p) fine h f = coloured_any us _ _ h f
   coloured d us (cast_expr p a) fine h f = coloured_any us _ _ h f
   coloured d us (space_expr c a) fine h f = coloured_any us _ _ h f
-
-  -- a colour that names no slot: a number that is written, or any
-  pub kept_coloured : (d : ℕ) (us : List Shape) (e : Expression) → IsTyped forms w e → IsCounting (typed w e) →
-      Goes us (expr_code w d e) (shape_of (typed w e) ∷ us) → Coloured us (expr_code w d e) (typed w e) (written_colour e)
-  kept_coloured d us (number_expr z v) fine h f = coloured_number us z v fine
-  kept_coloured d us (access_expr n rest) fine h f = coloured_any us _ _ h f
-  kept_coloured d us (truth_expr b) fine h f = coloured_any us _ _ h f
-  kept_coloured d us (chain_expr a rest) fine h f = coloured_any us _ _ h f
-  kept_coloured d us (prefix_expr signs a) fine h f = coloured_any us _ _ h f
-  kept_coloured d us (call_expr a args) fine h f = coloured_any us _ _ h f
-  kept_coloured d us (convert_expr c a) fine h f = coloured_any us _ _ h f
-  kept_coloured d us (is_null_expr a) fine h f = coloured_any us _ _ h f
-  kept_coloured d us (null_expr p) fine h f = coloured_any us _ _ h f
-  kept_coloured d us (cast_expr p a) fine h f = coloured_any us _ _ h f
-  kept_coloured d us (space_expr c a) fine h f = coloured_any us _ _ h f
 
   module _ (n : Name) (keeps : forms.keeps ≡ true) (cut : IsCutName w n) where
     -- that region names itself

@@ -1,5 +1,5 @@
 -- A variable that begins as a part of a partition has marks: its region lies within the one of which the partition is, as a fact tells.
-use Rattle.std.proofs.Common.{◌≡◌, inl, inr, ⊎_elim, ℕ, ℤ, suc, ◌<◌, ◌≤◌, List, [], ◌∷◌, ◌++◌, Bool, true, false, cond, None, Option, Some, refl, sym, ap, ◌∙◌, subst, arith}
+use Rattle.std.proofs.Common.{◌≡◌, inl, inr, ⊎_elim, ℕ, suc, ◌<◌, ◌≤◌, List, [], ◌∷◌, ◌++◌, Bool, true, false, cond, None, Option, Some, refl, sym, ap, ◌∙◌, subst, arith}
 use Rattle.std.specs.Prelude.{length, nat_le}
 use Rattle.std.proofs.lemmas.Bool.{and_parts, le-leb}
 use Rattle.std.proofs.lemmas.Option.{same_Some}
@@ -10,7 +10,7 @@ use Rattle.regent_tree.specs.StaticTypes.{Reach}
 use Rattle.regent_tree.specs.Syntax.{access_expr, at_step, Expression, Form, Name, no_step, plain_initializer, TaskTree, var_form}
 use Rattle.regent_tree.specs.Typing.{known_of_child, owned, parent_of, scope_after}
 use Rattle.regent_tree.specs.declared.facts.Colour.{Colour as WrittenColour}
-use Rattle.regent_tree.specs.declared.facts.Colour.TheVariants.{Constant, Unknown}
+use Rattle.regent_tree.specs.declared.facts.Colour.TheVariants.{Unknown}
 use Rattle.regent_tree.specs.declared.facts.Known.{Known}
 use Rattle.regent_tree.specs.declared.facts.Known.TheVariants.{Within}
 use Rattle.regent_tree.specs.declared.facts.Term.{Term}
@@ -39,20 +39,20 @@ use Rattle.code_laws.proofs.Domains.{part_is}
 use Rattle.code_laws.proofs.LocalGoals.{found_among}
 use Rattle.fit_laws.proofs.Keeping.{set_mark}
 use Rattle.fit_rules.specs.Shapes.{Among, argument, Is, is_number, is_region, own_as, part, region, World}
-use Rattle.fit_rules.specs.Marks.{child_in, Colour, in_slot, lies, Mark, parted, stacked, the_colour, top_at, topped}
+use Rattle.fit_rules.specs.Marks.{child_in, Colour, in_slot, lies, Mark, parted, stacked, top_at, topped}
 use Rattle.fit_rules.specs.Fits.{Program}
-use Rattle.sound_code.specs.Named.{HasSlots, is_begun, IsOfNumber, is_piece, IsWrittenColour, slot_at}
+use Rattle.sound_code.specs.Named.{HasSlots, is_begun, IsOfNumber, is_piece, IsSteadyColour, slot_at, loops_in}
 use Rattle.sound_code.specs.Ways.{by_rules, origin_behind, origin_in, shape_in, Tops, Way, whole_origin}
 use Rattle.sound_code.proofs.ArgumentTypes.{part_parent, part_term}
 use Rattle.sound_code.proofs.Asked.{Asked, begins_under, ruled, UpTo}
-use Rattle.sound_code.proofs.Colours.{named_low, written_at, written_colour, written_fixed}
+use Rattle.sound_code.proofs.Colours.{colour_at, colour_held, colour_steady, held_of, IsLoopIn, named_low, steady_under}
 use Rattle.sound_code.proofs.Combining.{behind_kept, both, fixed_to, fixing, Marked, nothing_done, slot_high}
 use Rattle.sound_code.proofs.Cuts.{cut_bound, place_as}
 use Rattle.sound_code.proofs.Cutting.{knowing, storing_piece}
 use Rattle.sound_code.proofs.Grounds.{BeginsUnder, Ground, Kept, top_behind, top_in}
 use Rattle.sound_code.proofs.Narrowing.{narrow_itself, narrow_set}
 use Rattle.sound_code.proofs.Numbering.{numbered_at, numbered_more}
-use Rattle.sound_code.proofs.Parts.{cut_of, kept_coloured, parent_there, piece_taken}
+use Rattle.sound_code.proofs.Parts.{coloured, cut_of, parent_there, piece_taken}
 use Rattle.sound_code.proofs.Plain.{plain_in}
 use Rattle.sound_code.proofs.Scoped.{region_found, ScopedBy, scoped_named}
 use Rattle.sound_code.proofs.ScopedNames.{scoped_bound}
@@ -60,6 +60,8 @@ use Rattle.sound_code.proofs.Statements.{Followed, named_more, new_name, value_m
 use Rattle.sound_code.proofs.Told.{told_at, told_head, ToldForm}
 use Rattle.sound_code.proofs.Under.{from_under, under_part}
 use Rattle.sound_code.proofs.WholeTasks.{takes_part}
+use Rattle.sound_code.proofs.Looping.{place_low}
+use Rattle.sound_code.proofs.Steady.{colour_below}
 
 -- a part of a region that may have begun as one lies within the one that began as none
 part_becomes : (tops : Tops) (task : TaskTree) (params i r sp : ℕ) → params ≤ i → tops task i ≡ Some (r, top_in params (tops task) r) → (x : World) (v : Value) →
@@ -111,8 +113,8 @@ upper_in (Within a b) = b
 upper_in k = term.Name 0
 
 -- a region's type tells of a part alone
-own_told : (next p : ℕ) (z : ℤ) (u : StaticType) → IsRegion u → Has (known_of_child next u) (Within (term.Name next) (term.Child p (Constant z))) →
-    term_in u ≡ term.Child p (Constant z)
+own_told : (next p : ℕ) (z : WrittenColour) (u : StaticType) → IsRegion u → Has (known_of_child next u) (Within (term.Name next) (term.Child p z)) →
+    term_in u ≡ term.Child p z
 own_told next p z _ (a_region_type k sp args (term.Child q c)) (inl e) = ap upper_in e
 own_told next p z _ (a_region_type k sp args (term.Child q c)) (inr h) = absurd h
 own_told next p z _ (a_region_type k sp args (term.Name i)) h = absurd h
@@ -122,21 +124,21 @@ no_type_told next _ (a_region_type k sp args r) d h = absurd h
 
 module _ (g : Program) (t : TaskCode) (k slots : ℕ) (have : HasSlots t slots) (forms : Forms) (way : Way) (w : Where) (m : Mark)
     (asked : Asked g t k slots forms way w m) where
-  -- what is told of the next region is told of the partition in a slot, by a number that is written
+  -- what is told of the next region is told of the partition in a slot, by the colour
   abbrev IsSaidPiece : Name → Colour → Type 0
-  IsSaidPiece q c = (tops : Tops) (task : TaskTree) → way ≡ by_rules tops task → (p : ℕ) (z : ℤ) →
-      Has (told_in w.tree task) (Within (term.Name w.scope.next) (term.Child p (Constant z))) →
-      IsPartition (bound_as w.scope.names p).static_type × (slot_bound w p ≡ slot_named w q) × (c ≡ the_colour z)
+  IsSaidPiece q c = (tops : Tops) (task : TaskTree) → way ≡ by_rules tops task → (p : ℕ) (z : WrittenColour) →
+      Has (told_in w.tree task) (Within (term.Name w.scope.next) (term.Child p z)) →
+      IsPartition (bound_as w.scope.names p).static_type × (slot_bound w p ≡ slot_named w q) × IsLoopIn w.scope.names z × (c ≡ held_of w.params w.scope.names z)
 
   -- a part is kept by a new name, of the region with a number
-  bind_part : (n q : Name) (c : Colour) → IsWrittenColour c → is_bound w.scope.names q ≡ true → IsSaidPiece q c → (kind : Kind) (sp : ℕ) (args : List Reach) (r : ℕ) (form : Form) (p : Piece) → forms.keeps ≡ true → ToldForm way w.tree w.scope form →
+  bind_part : (n q : Name) (c : Colour) → IsSteadyColour w.params w.scope.names c → is_bound w.scope.names q ≡ true → IsSaidPiece q c → (kind : Kind) (sp : ℕ) (args : List Reach) (r : ℕ) (form : Form) (p : Piece) → forms.keeps ≡ true → ToldForm way w.tree w.scope form →
       IsRegion (bound_as w.scope.names r).static_type → Among m.facts (parted (slot_named w q) (slot_bound w r)) → BeginsUnder way w.params w.scope.next r → w.params ≤ w.scope.next →
       IsOfNumber w.scope.names (origin_in way w.params (term.Name r)) →
       Marked g t k (stacked m []) p (topped m (region (Some sp) (part (origin_in way w.params (term.Name r))) ∷ []) (top_at (child_in (slot_named w q) c))) →
       slot_at w.params (length w.scope.names) < length m.slots →
       Followed g t k forms.keeps way w.tree w.params (new_name g t k slots have forms way w m asked n (region_type kind sp args (term.Name w.scope.next)) ∷ w.scope.names) m
       (p ⨟ op (instr.Store (slot_at w.params (length w.scope.names))) w.line)
-  bind_part n q c written bound_q said kind sp args r form p keeps told there fact under high number f hi =
+  bind_part n q c steady bound_q said kind sp args r form p keeps told there fact under high number f hi =
       let ready = asked.ready in
       let names = w.scope.names in
       let slot = slot_at w.params (length names) in
@@ -157,7 +159,8 @@ module _ (g : Program) (t : TaskCode) (k slots : ℕ) (have : HasSlots t slots) 
         is = fixing g t k _ (knowing (lies (in_slot slot) (child_in (slot_named w q) c)) (knowing (lies (in_slot slot) (in_slot (slot_bound w r))) (set_mark m slot (shape_in way w.params u) []))) _ _
             (both g t k f (storing_piece g t k w.line m (slot_bound w r) (slot_named w q) slot c _ (shape_in way w.params u)
             (behind_kept way w.params names m slot ready (omega arith)) (omega (arith, slot_high w.params (length names) ready.low, asked.params)) hi
-            (λ e. omega (arith, e, lower)) (λ e. omega (arith, e, lower_q)) written (plain_in way w.params u) fact
+            (λ e. omega (arith, e, lower)) (λ e. omega (arith, e, lower_q))
+            (steady_under w.params names c (place_low way w.params m.slots names ready.named) steady) (plain_in way w.params u) fact
             (λ x v i. subst (λ y. Is x (shape_in y w.params u) v) (sym by.by) (part_becomes by.tops by.task w.params w.scope.next r sp high begins x v
             (subst (λ y. Is x (region (Some sp) (part (origin_in y w.params (term.Name r)))) v) by.by i)))));
         ready = record {
@@ -165,7 +168,7 @@ module _ (g : Program) (t : TaskCode) (k slots : ℕ) (have : HasSlots t slots) 
           beside = plain.beside;
           free = plain.free;
           numbered = plain.numbered;
-          facts = (is_piece (length names) (bound w q).place c (omega arith) (omega (arith, low_q)) written, (is_begun (length names) (bound_as names r).place (omega arith) (omega (arith, low)), plain.facts));
+          facts = (is_piece (length names) (bound w q).place c (omega arith) (omega (arith, low_q)) (subst (λ v. IsSteadyColour w.params (loops_in v (b ∷ names)) c) (sym by.by) (colour_below w.params names (b ∷ names) c (λ d h. inr h) steady)), (is_begun (length names) (bound_as names r).place (omega arith) (omega (arith, low)), plain.facts));
           low = plain.low;
           fixed = refl;
         };
@@ -180,24 +183,25 @@ module _ (g : Program) (t : TaskCode) (k slots : ℕ) (have : HasSlots t slots) 
               λ p z a.
                   let f = said tops task same p z a in (
                     f.0,
-                    subst (λ s. Among fs (lies (in_slot slot) (child_in s (the_colour z)))) (sym f.1)
-                        (subst (λ y. Among fs (lies (in_slot slot) (child_in (slot_named w q) y))) f.2 (inl refl)),
+                    f.2,
+                    subst (λ s. Among fs (lies (in_slot slot) (child_in s (held_of w.params names z)))) (sym f.1)
+                        (subst (λ y. Among fs (lies (in_slot slot) (child_in (slot_named w q) y))) f.3 (inl refl)),
                   ),
             ));
       }
 
   -- what is told of the next region, where it is the part by an index
   said_piece : (x q : Name) (i : Expression) (cut : IsCutName w q) (is : IsRegion (typed w (access_expr q (at_step i no_step)))) → forms.keeps ≡ true →
-      UpTo way w.tree (scope_after w.tree w.scope (var_form x None (Some (plain_initializer (access_expr q (at_step i no_step)))))) → IsSaidPiece q (written_colour i)
+      UpTo way w.tree (scope_after w.tree w.scope (var_form x None (Some (plain_initializer (access_expr q (at_step i no_step)))))) → IsSaidPiece q (colour_at w i)
   said_piece x q i cut is keeps up tops task by p z h =
-      let k = Within (term.Name w.scope.next) (term.Child p (Constant z)) in
+      let k = Within (term.Name w.scope.next) (term.Child p z) in
       let y = access_expr q (at_step i no_step) in
       let kept = subst (λ v. Ground t v w.tree w.params w.scope) by asked.ground in
       let scoped = subst (λ v. ScopedBy v w.scope.names) by (asked.scoped keeps) in
       let upto = subst (λ v. UpTo v w.tree (scope_after w.tree w.scope (var_form x None (Some (plain_initializer y))))) by up in
       let kc = known_of_child w.scope.next (typed w y) in
       let kt = known_of_type (owned w.scope.next (typed w y)) in
-      let own : term_in (typed w y) ≡ term.Child p (Constant z) = ⊎_elim
+      let own : term_in (typed w y) ≡ term.Child p z = ⊎_elim
       (λ g. ⊎_elim
       (λ old. absurd (none_old kept old))
       (λ new. ⊎_elim (own_told w.scope.next p z (typed w y) is) (λ d. absurd (no_type_told w.scope.next (typed w y) is k d)) (Has-append_cases kc kt k new))
@@ -206,20 +210,22 @@ module _ (g : Program) (t : TaskCode) (k slots : ℕ) (have : HasSlots t slots) 
       (Has-append_cases (w.scope.known ++ (kc ++ kt)) upto.more k (subst (λ ks. Has ks k) upto.known h)) in
       let same = sym (part_term w q i cut.partition (scoped_named w.scope.names w.scope.names q scoped cut.named) is) ∙ own in
       let at = (found_by_number w.scope.next w.scope.names q cut.numbers cut.named).0 in
-      let number : (bound w q).number ≡ p = ap cut_in same in (
+      let number : (bound w q).number ≡ p = ap cut_in same in
+      let held = colour_held w i cut.numbers in (
         subst (λ n. IsPartition (bound_as w.scope.names n).static_type) number (subst (λ (b : Bound). IsPartition b.static_type) (sym at) cut.partition),
         sym (ap (λ n. slot_bound w n) number) ∙ ap (λ (b : Bound). slot_at w.params b.place) at,
-        written_at w.scope i z (ap colour_in same),
+        subst (IsLoopIn w.scope.names) (ap colour_in same) held.0,
+        held.1 ∙ ap (held_of w.params w.scope.names) (ap colour_in same),
       )
     where
       behind_it : suc w.scope.next ≤ w.scope.next → ⊥
       behind_it l = omega (arith, l)
 
-      none_old : {tops : Tops} {task : TaskTree} → Kept t tops task w.tree w.params w.scope → Has w.scope.known (Within (term.Name w.scope.next) (term.Child p (Constant z))) → ⊥
+      none_old : {tops : Tops} {task : TaskTree} → Kept t tops task w.tree w.params w.scope → Has w.scope.known (Within (term.Name w.scope.next) (term.Child p z)) → ⊥
       none_old kept old = ⊎_elim
           (λ d. absurd (subst IsChildTerm d.is_upper tt))
           (λ d. let same : w.scope.next ≡ d.own = ap number_in d.is_lower in omega (arith, same, d.low))
-          (kept.head.within (term.Name w.scope.next) (term.Child p (Constant z)) (Contains-from_Has w.scope.known _ old))
+          (kept.head.within (term.Name w.scope.next) (term.Child p z) (Contains-from_Has w.scope.known _ old))
 
   -- `var x = q[i]`
   pub piece_marked : (x : Name) (e : Expression) → ToldForm way w.tree w.scope (var_form x None (Some (plain_initializer e))) →
@@ -240,14 +246,14 @@ module _ (g : Program) (t : TaskCode) (k slots : ℕ) (have : HasSlots t slots) 
       let low : r < w.scope.next = subst (λ n. n < w.scope.next) found.1 (found_among w.scope.next names (bound_as names r) cut.numbers found.0).1 in
       let there = parent_there g t k slots forms way w m asked q keeps cut in
       let code = subst (λ u. Stands t.body pc (plain_code w (owned w.scope.next u) y)) kind.is st.0 in
-      let taken = both g t k (piece_taken g t k slots forms way w m asked q keeps cut 0 [] (bound w q).static_type i (written_colour i) cut.partition b.0.3.1
-      (λ p s. kept_coloured g t k slots forms way w m asked 0 [] i b.0.3.0 b.0.3.1 (value_marked g t k slots have forms way w m asked i [] b.0.3.0 (λ a. (and_parts _ _ whole).1)
+      let taken = both g t k (piece_taken g t k slots forms way w m asked q keeps cut 0 [] (bound w q).static_type i (colour_at w i) cut.partition b.0.3.1
+      (λ p s. coloured g t k slots forms way w m asked 0 [] i b.0.3.0 b.0.3.1 (value_marked g t k slots have forms way w m asked i [] b.0.3.0 (λ a. (and_parts _ _ whole).1)
       (told_at w.tree w.scope way q i (told_head w.tree w.scope way form y refl told)) p s)) pc code.0) (nothing_done g t k _) in
       subst (λ u. Followed g t k forms.keeps way w.tree w.params (new_name g t k slots have forms way w m asked x (owned w.scope.next u) ∷ names) m
       (plain_code w (owned w.scope.next u) y ⨟ op (instr.Store (slot_at w.params (length names))) w.line)) (sym kind.is)
-      (bind_part x q (written_colour i) (written_fixed i) cut.named (said_piece x q i cut b.0.2 keeps up) kind.kind kind.space kind.args r form (expr_code w 0 y ⨟ empty) keeps told is
+      (bind_part x q (colour_at w i) (colour_steady w i) cut.named (said_piece x q i cut b.0.2 keeps up) kind.kind kind.space kind.args r form (expr_code w 0 y ⨟ empty) keeps told is
       (cut_of g t k slots forms way w m asked q keeps cut).fact (begins_under forms t way w.tree w.params w.scope.next r asked.params keeps asked.hands b.2 low) (ruled g t k slots forms way w m asked keeps).kept.next
       (numbered_at names m.slots _ _ asked.ready.numbered there)
       (subst (λ sp. Marked g t k (stacked m []) (expr_code w 0 y ⨟ empty)
-      (topped m (region (Some sp) (part (origin_in way w.params (term.Name r))) ∷ []) (top_at (child_in (slot_named w q) (written_colour i))))) (sym kind.of_space) taken) hi)
+      (topped m (region (Some sp) (part (origin_in way w.params (term.Name r))) ∷ []) (top_at (child_in (slot_named w q) (colour_at w i))))) (sym kind.of_space) taken) hi)
   piece_marked x _ told up keeps b whole pc st hi = absurd b

@@ -24,7 +24,7 @@ use Rattle.fit_laws.proofs.Held.{none_held, plain_held}
 use Rattle.fit_laws.proofs.Keeping.{are_first, are_others, get_other, get_set, set_mark}
 use Rattle.sound_code.specs.Ways.{Way}
 use Rattle.sound_code.proofs.Steady.{steady_below}
-use Rattle.sound_code.specs.Named.{IsSteady, is_count, slot_at, Ready}
+use Rattle.sound_code.specs.Named.{IsSteady, is_count, slot_at, Ready, loops_in}
 use Rattle.fit_laws.proofs.Lookup.{as_long, value_at, set_at}
 use Rattle.sound_code.proofs.Combining.{Marked, both, into, behind_kept, slot_high, storing}
 use Rattle.sound_code.proofs.Narrowing.{narrow_into}
@@ -136,8 +136,8 @@ module _ (g : Program) (t : TaskCode) (k : ℕ) (way : Way) (params : ℕ) (bs :
   abbrev pub round : Mark
   round = round_mark way params bs m r D index V counting
 
-  pub are_counts : Each (IsSteady params (suc (length bs))) counting
-  are_counts = (is_count (length bs) r.low (omega arith), steady_below params (length bs) (suc (length bs)) m.facts (omega arith) r.facts)
+  pub are_counts : Each (IsSteady params (suc (length bs)) (loops_in way bs)) counting
+  are_counts = (is_count (length bs) r.low (omega arith), steady_below params (length bs) (suc (length bs)) (loops_in way bs) (loops_in way bs) m.facts (omega arith) (λ c h. h) r.facts)
 
   rounds_on : RoundPoint g t d c v ptr (stacked head []) round
   rounds_on x vs st s u i p eu ei ep1 =

@@ -8,11 +8,13 @@ use Rattle.fit_rules.specs.Shapes.{Each, Shape}
 use Rattle.fit_rules.specs.Marks.{Fact, Mark}
 use Rattle.fit_laws.proofs.Keeping.{get_other, get_set}
 use Rattle.sound_code.specs.Ways.{Way, shape_in}
-use Rattle.sound_code.specs.Named.{HasPartBeside, IsNumbered, IsSteady, slot_at, Ready, Narrower}
+use Rattle.sound_code.specs.Named.{HasPartBeside, IsNumbered, IsSteady, slot_at, Ready, Narrower, loops_in}
 use Rattle.sound_code.proofs.Besides.{parts_behind}
 use Rattle.sound_code.proofs.Combining.{slot_next}
 use Rattle.sound_code.proofs.Numbering.{each_numbered, numbered_set}
 use Rattle.sound_code.proofs.Narrowing.{narrow_itself, narrow_set, named_behind}
+use Rattle.sound_code.proofs.Steady.{steady_below}
+use Rattle.sound_code.proofs.Looping.{loop_more}
 
 -- the shapes of the limit or domain, of the counter and of the variable, and what is known of them
 module _ (way : Way) (params : ℕ) (bs : List Bound) (m : Mark) (r : Ready way params bs m) (B C V : Shape) (fs : List Fact) where
@@ -62,7 +64,7 @@ module _ (way : Way) (params : ℕ) (bs : List Bound) (m : Mark) (r : Ready way 
         ∙ get_other head_mark.slots va be V (λ e. omega (arith, e)) ∙ limit_there
 
     pub round_ready : (b : Bound) → b.place ≡ length bs → shape_in way params b.static_type ≡ V →
-        IsNumbered (b ∷ bs) B → IsNumbered (b ∷ bs) C → IsNumbered (b ∷ bs) V → Each (IsSteady params (suc (length bs))) fs →
+        IsNumbered (b ∷ bs) B → IsNumbered (b ∷ bs) C → IsNumbered (b ∷ bs) V → Each (IsSteady params (suc (length bs)) (loops_in way bs)) fs →
         HasPartBeside way params round_mark.slots bs b.place b.static_type → Ready way params (b ∷ bs) round_mark
     round_ready b eb es nb nc nv counts beside = record {
       named = (
@@ -92,7 +94,7 @@ module _ (way : Way) (params : ℕ) (bs : List Bound) (m : Mark) (r : Ready way 
           ∙ r.free j (omega (arith, l, next)) (omega (arith, h, long_round));
       numbered = numbered_set (b ∷ bs) (slice_set head_mark.slots va V) co C (numbered_set (b ∷ bs) head_mark.slots va V
           (numbered_set (b ∷ bs) (slice_set m.slots be B) co C (numbered_set (b ∷ bs) m.slots be B (each_numbered bs b m.slots r.numbered) nb) nc) nv) nc;
-      facts = counts;
+      facts = steady_below params (suc (length bs)) (suc (length bs)) (loops_in way bs) (loops_in way (b ∷ bs)) fs (omega arith) (loop_more way b bs) counts;
       low = omega (arith, r.low);
       fixed = refl;
     }

@@ -25,8 +25,8 @@ use Rattle.code_rules.specs.Pieces.{Piece, empty, op, ◌⨟◌, branch, loop}
 use Rattle.code_rules.specs.Programs.{code_of, space_code}
 use Rattle.code_rules.specs.Slots.{beside, Where, typed, bound, slot_named}
 use Rattle.code_rules.specs.Statements.{form_code}
-use Rattle.code_laws.specs.Pointers.{a_pointer_type, BeginsItself, HasZero, IsPointer, itself_null, itself_plain, zero_index, zero_scalar}
-use Rattle.code_laws.specs.Simple.{IsTruth, AreAlike, scalar_integer, scalar_truth, simple_integer, simple_truth, simple_space, simple_index, IsSpace, a_space_type}
+use Rattle.code_laws.specs.Pointers.{a_pointer_type, BeginsItself, GivesBack, HasZero, IsPointer, itself_null, itself_plain, zero_index, zero_scalar}
+use Rattle.code_laws.specs.Simple.{IsTruth, scalar_integer, scalar_truth, simple_integer, simple_truth, simple_space, simple_index, IsSpace, a_space_type}
 use Rattle.code_laws.specs.Standing.{Stands}
 use Rattle.code_laws.specs.Steps.{Forms}
 use Rattle.code_laws.specs.Typed.{ArePassed, IsCallable, IsMakable, IsTyped}
@@ -38,10 +38,10 @@ use Rattle.marked_code.specs.Marked.{leads_back, leads_making, typed_op, typed_b
 use Rattle.fit_laws.proofs.Keeping.{get_other, get_set, set_mark}
 use Rattle.sound_code.proofs.Plain.{plain_in}
 use Rattle.sound_code.proofs.Counting.{null_fits}
-use Rattle.sound_code.specs.Named.{slot_at, HasSlots, IsNumbered, Ready, Narrower}
+use Rattle.sound_code.specs.Named.{slot_at, HasSlots, IsNumbered, Ready, Narrower, loops_in}
 use Rattle.sound_code.proofs.WholeTasks.{are_whole_arguments, is_whole_expression}
 use Rattle.sound_code.specs.Ways.{Way, shape_in, shape_of}
-use Rattle.sound_code.proofs.Wholes.{alike_becomes, alike_simple, Asks, Becomes, IsKept, IsWorth, kept_pointer, kept_simple, simple_few, worth_few, worth_named, worth_pointer, worth_simple}
+use Rattle.sound_code.proofs.Wholes.{Asks, Becomes, becomes_plain, IsKept, IsWorth, kept_pointer, kept_simple, simple_few, worth_few, worth_named, worth_pointer, worth_simple}
 use Rattle.sound_code.proofs.Steady.{steady_below}
 use Rattle.sound_code.proofs.Told.{Told, ToldArgs, ToldCall}
 use Rattle.sound_code.proofs.Asked.{Asked}
@@ -49,12 +49,14 @@ use Rattle.sound_code.proofs.Cuts.{Cut}
 use Rattle.sound_code.proofs.Scoped.{Scoped}
 use Rattle.sound_code.proofs.Numbering.{each_numbered, numbered_set}
 use Rattle.machine_terms.specs.declared.value.Value.{Value}
-use Rattle.sound_code.proofs.Calling.{alike_second, scalar_numeric}
+use Rattle.sound_code.proofs.Calling.{zero_numeric}
+use Rattle.code_laws.proofs.Wider.{zero_simple}
 use Rattle.sound_code.proofs.Handing.{calls}
 use Rattle.sound_code.proofs.Combining.{bare_number, bare_space, IsBare, Marked, nothing_done, both, does, into, behind_kept, fixed_to, fixing, named_kept, keeping, slot_high, slot_next, storing}
 use Rattle.sound_code.proofs.Expressions.{args_marked, converted_marked, expr_marked, named_at, truth_shape}
 use Rattle.sound_code.proofs.Besides.{NamesNoChild, none_beside, parts_behind}
 use Rattle.sound_code.proofs.Narrowing.{AtLeast, fewer_facts, narrow_long, narrow_itself, narrow_set, narrow_into, named_behind}
+use Rattle.sound_code.proofs.Looping.{loop_more, MayStore}
 
 kept_bare : (u : StaticType) → IsWorth u → IsBare (shape_of u)
 kept_bare _ (worth_simple _ (simple_integer v)) = bare_number _ (numeric_integer v)
@@ -86,7 +88,7 @@ named_more way params bs m b r hi e numbered none = record {
       get_other m.slots _ j _ (λ q. omega (arith, q, l, next))
       ∙ r.free j (omega (arith, l, next)) (omega (arith, h, length-set m.slots (slot_at params (length bs)) (shape_in way params b.static_type)));
   numbered = numbered_set (b ∷ bs) m.slots (slot_at params (length bs)) (shape_in way params b.static_type) (each_numbered bs b m.slots r.numbered) numbered;
-  facts = steady_below params (length bs) (suc (length bs)) m.facts (omega arith) r.facts;
+  facts = steady_below params (length bs) (suc (length bs)) (loops_in way bs) (loops_in way (b ∷ bs)) m.facts (omega arith) (loop_more way b bs) r.facts;
   low = omega (arith, r.low);
   fixed = refl;
 }
@@ -231,23 +233,23 @@ module _ (g : Program) (t : TaskCode) (k slots : ℕ) (have : HasSlots t slots) 
           ∙ length-map (space_at w.tree sp).fields _)) can.few
 
   pub assign_marked : (x : Name) (e : Expression) → Becomes (typed w e) (bound w x).static_type → IsWorth (bound w x).static_type → IsTyped forms w e →
-      Asks forms.keeps (is_whole_expression true w e) → Told way w.tree w.scope e → is_bound w.scope.names x ≡ true → slot_named w x < length m.slots → (pc : ℕ) →
+      Asks forms.keeps (is_whole_expression true w e) → Told way w.tree w.scope e → is_bound w.scope.names x ≡ true → MayStore way (bound w x) → slot_named w x < length m.slots → (pc : ℕ) →
       Stands t.body pc (expr_code w 0 e) → Followed g t k forms.keeps way w.tree w.params w.scope.names m (form_code w (assign_form x no_step how.Set e))
-  assign_marked x e goes is f whole told b hi pc st =
+  assign_marked x e goes is f whole told b free hi pc st =
       let r = asked.ready in
       let h = named_at way w.params m.slots w.scope.names x r.named b ∙ ap Some (worth_named way w.params _ is) in
       unchanged g t k forms.keeps way w.tree _ _ m _ r asked.scoped asked.cut (both g t k (both g t k (value_marked e [] f whole told pc st)
       (converted_marked g t k slots have forms way w m asked _ _ [] goes (worth_few _ is)))
       (keeping g t k m (slot_named w x) (shape_of (bound w x).static_type) w.line
-      (named_kept way w.params w.scope.names m (bound w x).place r) (kept_bare _ is) hi h))
+      (named_kept way w.params w.scope.names m x r b free) (kept_bare _ is) hi h))
 
-  pub return_marked : (e : Expression) → AreAlike (typed w e) w.result → IsTyped forms w e → Asks forms.keeps (is_whole_expression true w e) → Told way w.tree w.scope e → (pc : ℕ) → Stands t.body pc (expr_code w 0 e) →
+  pub return_marked : (e : Expression) → GivesBack (typed w e) w.result → IsTyped forms w e → Asks forms.keeps (is_whole_expression true w e) → Told way w.tree w.scope e → (pc : ℕ) → Stands t.body pc (expr_code w 0 e) →
       Followed g t k forms.keeps way w.tree w.params w.scope.names m (form_code w (return_form (Some e)))
-  return_marked e al f simple told pc st = unchanged g t k forms.keeps way w.tree _ _ m _ asked.ready asked.scoped asked.cut (both g t k (value_marked e [] f simple told pc st)
-      (both g t k (converted_marked g t k slots have forms way w m asked _ _ [] (alike_becomes _ _ al) (simple_few _ (alike_simple _ _ al))) (record {
+  return_marked e gives f simple told pc st = unchanged g t k forms.keeps way w.tree _ _ m _ asked.ready asked.scoped asked.cut (both g t k (value_marked e [] f simple told pc st)
+      (both g t k (converted_marked g t k slots have forms way w m asked _ _ [] (becomes_plain _ _ gives.0) (simple_few _ (zero_simple _ gives.1))) (record {
         marks = _;
         is = typed_op _ _ _ w.line (leads_back (stacked m (shape_of w.result ∷ [])) (stacked m []) (shape_of w.result) []
-            refl (scalar_numeric _ (alike_second _ _ al)) (λ z h. subst (λ y. NumberIs y z) (sym asked.result) h) refl);
+            refl (zero_numeric _ gives.1) (λ z h. subst (λ y. NumberIs y z) (sym asked.result) h) refl);
       })))
 
   pub assert_marked : (e : Expression) → IsTruth (typed w e) → IsTyped forms w e → Asks forms.keeps (is_whole_expression true w e) → Told way w.tree w.scope e → (pc : ℕ) → Stands t.body pc (expr_code w 0 e) →

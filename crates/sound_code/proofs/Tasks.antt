@@ -25,7 +25,7 @@ use Rattle.fit_rules.specs.Marks.{Into, Mark, stacked}
 use Rattle.fit_rules.specs.Fits.{Program}
 use Rattle.fit_rules.specs.Sound.{IsSound}
 use Rattle.marked_code.specs.Marked.{Typed}
-use Rattle.sound_code.specs.Named.{slot_at, AreNamed, HasSlots, Ready}
+use Rattle.sound_code.specs.Named.{slot_at, AreNamed, HasSlots, Ready, loops_in}
 use Rattle.sound_code.specs.Ways.{Way, all_made, by_rules, opening_facts, shape_in, shape_of}
 use Rattle.sound_code.proofs.WholeTasks.{is_whole_task}
 use Rattle.sound_code.proofs.Besides.{params_beside}
@@ -109,7 +109,7 @@ module _ (tree : Tree) where
         free = λ s h l. free_behind (map f (param_types tree t)) blanks s
             (omega (arith, h, names_many t, length-map (param_types tree t) f, types_many tree t)) l;
         numbered = opening_numbered way n (scope_of tree t).names (param_types tree t) blanks (params_low tree t);
-        facts = steady_below n n (length (scope_of tree t).names) (opening_facts way tree t) (omega (arith, names_many t)) (opening_steady way tree t);
+        facts = steady_below n n (length (scope_of tree t).names) [] (loops_in way (scope_of tree t).names) (opening_facts way tree t) (omega (arith, names_many t)) (λ b h. absurd h) (opening_steady way tree t);
         low = omega (arith, names_many t);
         fixed = omega (arith, names_many t);
       }

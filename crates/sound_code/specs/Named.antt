@@ -1,5 +1,5 @@
 -- The shapes of names in scope: what a mark between two statements says.
-use Rattle.std.specs.Prelude.{◌≡◌, ℕ, ◌<◌, ◌≤◌, ◌+◌, ◌*◌, ◌-◌, List, [], ◌∷◌, length, map, Some, slice_get}
+use Rattle.std.specs.Prelude.{◌≡◌, ℕ, ◌<◌, ◌≤◌, ◌+◌, ◌*◌, ◌-◌, List, [], ◌∷◌, length, map, Some, slice_get, true}
 use Rattle.regent_tree.specs.Accesses.{space_in}
 use Rattle.regent_tree.specs.Scopes.{bound_as}
 use Rattle.regent_tree.specs.Typing.{parent_of}
@@ -14,7 +14,8 @@ use Rattle.machine_terms.specs.Jumps.{fetch}
 use Rattle.code_rules.specs.Used.{slots_used}
 use Rattle.fit_rules.specs.Shapes.{Among, cut_from, Each, Shape, anything, child_at, held_at, region, Origin, own_as, part}
 use Rattle.fit_rules.specs.Marks.{any_colour, apart, child_in, Colour, colour_in, counts, Fact, in_slot, lies, Mark, parted, point_in, the_colour}
-use Rattle.sound_code.specs.Ways.{Way, origin_in, shape_in}
+use Rattle.sound_code.specs.Ways.{all_made, by_rules, Way, origin_in, shape_in}
+use Rattle.code_laws.specs.Coloured.{IsBoundIn}
 
 -- the slot of a place
 abbrev pub slot_at : ℕ → ℕ → ℕ
@@ -30,24 +31,31 @@ AreNamed way params ss (b ∷ bs) = (b.place ≡ length bs)
 abbrev pub HasSlots : TaskCode → ℕ → Type 0
 HasSlots t n = (pc : ℕ) (l : Line) → fetch t.body pc ≡ Some l → slots_used l.instr ≤ n
 
--- a colour that names no slot
-abbrev pub IsWrittenColour : Colour → Type 0
-IsWrittenColour (the_colour z) = Unit {0}
-IsWrittenColour (colour_in s) = ⊥
-IsWrittenColour (point_in s) = ⊥
-IsWrittenColour any_colour = Unit {0}
+-- the slot of a loop's variable in scope, which stays as it is in the loop's body
+pub record IsLoopSlot (params : ℕ) (bs : List Bound) (s : ℕ) : Type 0 where
+  pub variable : Bound
+  pub there : IsBoundIn bs variable
+  pub by_loop : variable.by_loop ≡ true
+  pub slot : s ≡ slot_at params variable.place
+
+-- a colour that names no slot, or such a one
+abbrev pub IsSteadyColour : ℕ → List Bound → Colour → Type 0
+IsSteadyColour params bs (the_colour z) = Unit {0}
+IsSteadyColour params bs (colour_in s) = IsLoopSlot params bs s
+IsSteadyColour params bs (point_in s) = IsLoopSlot params bs s
+IsSteadyColour params bs any_colour = Unit {0}
 
 -- A fact of a loop over points: its counter, beside the slot of its variable, and its domain, behind. Or one of
 -- regions that are parameters. Or of which name's region another name's partition is, or within which another name's
 -- region lies, which began as a part, and which child of a partition that is.
-pub data IsSteady (params n : ℕ) : Fact → Type 0 where
-  is_count : (p : ℕ) → params ≤ p → p < n → IsSteady params n (counts (slot_at params p + 1) (slot_at params p + 2))
-  is_within : (i j : ℕ) → i < params → j < params → IsSteady params n (lies (in_slot i) (in_slot j))
-  is_apart : (i j : ℕ) → i < params → j < params → IsSteady params n (apart (in_slot i) (in_slot j))
-  is_parted : (i j : ℕ) → i < n → j < n → IsSteady params n (parted (slot_at params i) (slot_at params j))
-  is_piece : (i p : ℕ) (c : Colour) → i < n → p < n → IsWrittenColour c →
-      IsSteady params n (lies (in_slot (slot_at params i)) (child_in (slot_at params p) c))
-  is_begun : (i j : ℕ) → i < n → j < n → IsSteady params n (lies (in_slot (slot_at params i)) (in_slot (slot_at params j)))
+pub data IsSteady (params n : ℕ) (bs : List Bound) : Fact → Type 0 where
+  is_count : (p : ℕ) → params ≤ p → p < n → IsSteady params n bs (counts (slot_at params p + 1) (slot_at params p + 2))
+  is_within : (i j : ℕ) → i < params → j < params → IsSteady params n bs (lies (in_slot i) (in_slot j))
+  is_apart : (i j : ℕ) → i < params → j < params → IsSteady params n bs (apart (in_slot i) (in_slot j))
+  is_parted : (i j : ℕ) → i < n → j < n → IsSteady params n bs (parted (slot_at params i) (slot_at params j))
+  is_piece : (i p : ℕ) (c : Colour) → i < n → p < n → IsSteadyColour params bs c →
+      IsSteady params n bs (lies (in_slot (slot_at params i)) (child_in (slot_at params p) c))
+  is_begun : (i j : ℕ) → i < n → j < n → IsSteady params n bs (lies (in_slot (slot_at params i)) (in_slot (slot_at params j)))
 
 -- what has a shape is of a root that was made under the number of a name, if under any
 abbrev pub IsOfNumber : List Bound → Origin → Type 0
@@ -86,6 +94,11 @@ abbrev pub HavePartsBeside : Way → ℕ → List Shape → List Bound → Type 
 HavePartsBeside way params ss [] = Unit {0}
 HavePartsBeside way params ss (b ∷ bs) = HasPartBeside way params ss bs b.place b.static_type × HavePartsBeside way params ss bs
 
+-- those among the names whose slots may name the colours of parts: where a task is looked at by the rules, the variables of loops stay
+abbrev pub loops_in : Way → List Bound → List Bound
+loops_in all_made bs = []
+loops_in (by_rules tops task) bs = bs
+
 -- A mark stands between two statements: the names have their shapes, of the slots behind those of the
 -- names nothing is known, roots are those of names, and facts speak of the counters of loops around, of parameters, of
 -- the partitions that names have, and of regions that began as parts. Beside pointers into parts stand the parts. The slots of names
@@ -96,7 +109,7 @@ pub record Ready (way : Way) (params : ℕ) (bs : List Bound) (m : Mark) : Type 
   pub free : (s : ℕ) → slot_at params (length bs) ≤ s → s < length m.slots →
       slice_get m.slots s ≡ Some anything
   pub numbered : Each (IsNumbered bs) m.slots
-  pub facts : Each (IsSteady params (length bs)) m.facts
+  pub facts : Each (IsSteady params (length bs) (loops_in way bs)) m.facts
   pub low : params ≤ length bs
   pub fixed : m.fixed ≡ slot_at params (length bs)
 

@@ -1,7 +1,7 @@
 -- An accepted program of which variables begin as parts, so that the law on whole programs is a law of something there: such a one is
 -- filled, handed over and cut further, a variable begins as a part of that too, constraints say that it lies within the first region, and
 -- within the one of which it is a part, which lies within itself, and that two parts of one partition share no point, and a partition is
--- handed over with the region that it is of.
+-- handed over with the region that it is of. Parts that have no name are handed over beside these, within one of which those that have lie.
 use Rattle.std.specs.Prelude.{[], ◌∷◌, codes, pos, true}
 use Rattle.lane_kernels.specs.declared.numbers.Op.TheVariants.{Sum}
 use Rattle.regent_tree.specs.Syntax.{Tree}
@@ -44,6 +44,13 @@ use Rattle.sound_code.specs.Programs.{IsWholeProgramRun, LocalRunsSoundly}
 --         keep(a, q)
 --         keep(q, q)
 --         half(q, h)
+--         raise(p[c])
+--         keep(q, p[c])
+--         keep(a, p[c])
+--         keep(h[1], p[c])
+--         keep(h[1], q)
+--         keep(u, p[0])
+--         two(u, p[1])
 --       end
 --     end
 abbrev pub pieces_program : Tree
@@ -87,6 +94,13 @@ pieces_program =
     ∷ line 31 (call "keep" (get "a" ∷ get "q" ∷ []))
     ∷ line 32 (call "keep" (get "q" ∷ get "q" ∷ []))
     ∷ line 33 (call "half" (get "q" ∷ get "h" ∷ []))
+    ∷ line 34 (call "raise" (access "p" (at (get "c") ∷ []) ∷ []))
+    ∷ line 35 (call "keep" (get "q" ∷ access "p" (at (get "c") ∷ []) ∷ []))
+    ∷ line 36 (call "keep" (get "a" ∷ access "p" (at (get "c") ∷ []) ∷ []))
+    ∷ line 37 (call "keep" (access "h" (at (int 1) ∷ []) ∷ access "p" (at (get "c") ∷ []) ∷ []))
+    ∷ line 38 (call "keep" (access "h" (at (int 1) ∷ []) ∷ get "q" ∷ []))
+    ∷ line 39 (call "keep" (get "u" ∷ access "p" (at (int 0) ∷ []) ∷ []))
+    ∷ line 40 (call "two" (get "u" ∷ access "p" (at (int 1) ∷ []) ∷ []))
     ∷ []))
     ∷ []))
     ∷ []

@@ -26,7 +26,7 @@ pub fn region_code_is_sound()
     ensures { RegionTasksAreSound }
 {}
 
-/// Where all tasks are typed, and call others that take and give numbers and truths, the code of each is sound.
+/// Where all tasks are typed, and call others that take numbers and truths and give these and indices, the code of each is sound.
 /// The frame of a call fits when it opens, whatever its arguments and turns, and so does that in which a run begins.
 #[tactic(auto, using(crate::proofs::Openings::calls_are_sound))]
 pub fn code_with_calls_is_sound()

@@ -1,0 +1,17 @@
+-- The premises of the law hold of a program with the difference of two partitions as a variable of a written type.
+use Rattle.std.proofs.Common.{[], refl, arith}
+use Rattle.std.specs.Int.{int_wrap}
+use Rattle.regent_tree.specs.Limits.{WithinLimits, parts_of_program}
+use Rattle.code_laws.specs.LocalPrograms.{IsLocalProgramRun}
+use Rattle.code_laws.specs.MinusExample.{MinusExampleHolds, minus_program}
+use Rattle.code_laws.proofs.LocalExample.{all_keep}
+
+within : WithinLimits minus_program
+within = record { each = all_keep (parts_of_program minus_program) refl; nodes = omega (arith) }
+
+run : IsLocalProgramRun minus_program []
+run = record { within = within; accepted = refl; local = refl; numbers = tt }
+
+pub minus_example_holds : MinusExampleHolds
+unfolding int_wrap
+minus_example_holds = record { run = run; end_is = refl }
