@@ -137,7 +137,7 @@ module _ (handing keeping : Bool) (tree : Tree) (task : TaskTree) (sound : IsSou
       let v = begun_local handing keeping tree task sound sound_task m local params result (λ q h. keeps q (inr h)) s line n y lo k scope names up e in
       var_ready s line n None (Some (plain_initializer y)) k scope names up e v
   var_local s line n (Some t) (Some (plain_initializer y)) lo k scope names up e =
-      let v = said_begun handing keeping tree task sound sound_task m local params result (λ q h. keeps q (inr h)) s line n t y lo k scope names e in
+      let v = said_begun handing keeping tree task sound sound_task m local params result (λ q h. keeps q (inr h)) s line n t y lo k scope names up e in
       var_ready s line n (Some t) (Some (plain_initializer y)) k scope names up e v
   var_local s line n (Some t) None lo k scope names up e =
       let v = unset_local handing keeping tree task sound sound_task m local params result s line n t lo scope names e in var_ready s line n (Some t) None k scope names up e v

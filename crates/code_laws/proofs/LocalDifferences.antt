@@ -34,10 +34,10 @@ use Rattle.check_rules.specs.scopes.Sound.{IsSound, IsSoundTask}
 use Rattle.check_rules.specs.scopes.Variables.{known_initializer, members_of, stands_declared, variable_type}
 use Rattle.check_rules.specs.types.Fitting.{fits}
 use Rattle.check_rules.specs.types.Sorts.{is_partition, may_be}
-use Rattle.local_form.specs.LocalForm.{Marked, begins_part, gives_scalar, is_among, is_difference, is_local_expression, is_local_form, is_partition_name, is_partition_term, is_said_term, keeps_pointer, says_difference, takes_partition_off, is_local_result}
+use Rattle.local_form.specs.LocalForm.{Marked, begins_part, gives_scalar, is_among, is_difference, is_local_expression, is_local_form, is_partition_name, is_partition_term, is_region_term, is_said_term, keeps_pointer, says_difference, says_part, takes_partition_off, is_local_result}
 use Rattle.code_laws.specs.Arguments.{ArePaired}
 use Rattle.code_laws.specs.Handing.{forms_by, told_in}
-use Rattle.code_laws.proofs.LocalPieces.{piece_local}
+use Rattle.code_laws.proofs.LocalPieces.{piece_local, piece_said}
 use Rattle.code_laws.proofs.Told.{ToldUpTo}
 use Rattle.code_laws.specs.Simple.{IsPartition, a_partition_type, simple_index, simple_integer, simple_space, simple_truth}
 use Rattle.code_laws.specs.Steps.{Forms}
@@ -258,7 +258,7 @@ module _ (handing keeping : Bool) (tree : Tree) (task : TaskTree) (sound : IsSou
           let ca = pair.first.partition in
           cut_written handing keeping tree task sound sound_task m local params result s line n t (plain_initializer difference) (is_disjoint tp) (parent_of tp)
           (keeps n marked) marked scope names none (difference_type s.next tp tq ca) (difference_child s.next tp tq ca) (first_among pair) tail
-          (λ like. said_apart keeping (here s line) difference _ _ (keeps n marked) (pair, like))
+          (λ like. said_apart keeping (here s line) difference _ _ _ (keeps n marked) (inl pair, like))
 
       -- what computes fits no partition
       numbers_said : first_in_expression tree task s difference ≡ None → StartsAs s line n t (plain_initializer difference)
@@ -325,11 +325,11 @@ module _ (handing keeping : Bool) (tree : Tree) (task : TaskTree) (sound : IsSou
       (λ other. otherwise_local s line n y other k scope names e)
       (or_cases (begins_part m n y) _ lo)
 
-  -- so is one of a written type
-  pub said_begun : (s : Scope) (line : ℕ) (n : Name) (t : TypeTerm) (y : Expression) → is_local_form m (var_form n (Some t) (Some (plain_initializer y))) ≡ true →
+  -- so where the type is written
+  said_otherwise : (s : Scope) (line : ℕ) (n : Name) (t : TypeTerm) (y : Expression) → (says_difference m n t y || (is_said_term m n t && is_local_expression m y)) ≡ true →
       AreKept (parts_of_form (var_form n (Some t) (Some (plain_initializer y)))) → IsSoundScope s → Ready s →
       first_of_form tree task s (var_form n (Some t) (Some (plain_initializer y))) ≡ None → StartsAs s line n t (plain_initializer y)
-  said_begun s line n t y lo k scope names e = ⊎_elim
+  said_otherwise s line n t y lo k scope names e = ⊎_elim
       (λ d.
       let cut = and_parts (is_partition_term t) (is_difference m y && is_among m.partitions n) d in
       let both = and_parts (is_difference m y) (is_among m.partitions n) cut.1 in
@@ -342,3 +342,12 @@ module _ (handing keeping : Bool) (tree : Tree) (task : TaskTree) (sound : IsSou
       said_by_types s line n is.0 is.1 both.1 scope names t cut.0 e parts.4 (may_be_partitions s.names is.0 is.1) refl parts.2 u.partitions) e)
       (λ plain. said_local handing keeping tree task sound sound_task m local params result s line n t y plain k scope names e)
       (or_cases (says_difference m n t y) (is_said_term m n t && is_local_expression m y) lo)
+
+  pub said_begun : (s : Scope) (line : ℕ) (n : Name) (t : TypeTerm) (y : Expression) → is_local_form m (var_form n (Some t) (Some (plain_initializer y))) ≡ true →
+      AreKept (parts_of_form (var_form n (Some t) (Some (plain_initializer y)))) → IsSoundScope s → Ready s →
+      ToldUpTo (told_in tree task) (scope_after tree s (var_form n (Some t) (Some (plain_initializer y)))) →
+      first_of_form tree task s (var_form n (Some t) (Some (plain_initializer y))) ≡ None → StartsAs s line n t (plain_initializer y)
+  said_begun s line n t y lo k scope names up e = ⊎_elim
+      (λ part. piece_said handing keeping tree task sound sound_task m local params result keeps s line n t y (and_parts (is_region_term t) (begins_part m n y) part).1 k scope names up e)
+      (λ other. said_otherwise s line n t y other k scope names e)
+      (or_cases (says_part m n t y) _ lo)

@@ -89,7 +89,7 @@ module _ (handing keeping : Bool) (tree : Tree) (task : TaskTree) (sound : IsSou
   Typed s line n t i = VarTyped handing keeping tree task sound sound_task m local params result s line n t (Some i)
 
   -- what is told of a written type: what a variable begins with fits it
-  abbrev FitsSaid : Scope → Option TypeTerm → Initializer → Type 0
+  abbrev pub FitsSaid : Scope → Option TypeTerm → Initializer → Type 0
   FitsSaid s t i = list_any (is_ill_typed_at_place s.known) (stands_declared (known_initializer tree s i) t (variable_type tree s t (Some i))) ≡ false
 
   pub said_fits : (s : Scope) (n : Name) (t : TypeTerm) (i : Initializer) → IsSoundScope s → Ready s →
@@ -162,12 +162,12 @@ module _ (handing keeping : Bool) (tree : Tree) (task : TaskTree) (sound : IsSou
   -- ---- regions
 
   -- a type that fits a region is written as one of the same field space
-  record IsRegionSaid (s : Scope) (t : TypeTerm) (sp : ℕ) : Type 0 where
-    kind : Kind
-    args : List Reach
-    is : type_said tree (in_scope s) s.next t ≡ region_type kind sp args (place.Name s.next)
+  pub record IsRegionSaid (s : Scope) (t : TypeTerm) (sp : ℕ) : Type 0 where
+    pub kind : Kind
+    pub args : List Reach
+    pub is : type_said tree (in_scope s) s.next t ≡ region_type kind sp args (place.Name s.next)
 
-  region_said : (s : Scope) (k : Kind) (sp : ℕ) (args : List Reach) (t : TypeTerm) →
+  pub region_said : (s : Scope) (k : Kind) (sp : ℕ) (args : List Reach) (t : TypeTerm) →
       fits s.known (region_type k sp args (place.Name s.next)) (type_said tree (in_scope s) s.next t) ≡ true → IsRegionSaid s t sp
   region_said s k sp args (term.Region j u) e =
       let brgs = map (looked_up (in_scope s)) u.args in

@@ -182,7 +182,7 @@ module _ (handing keeping : Bool) (tree : Tree) (task : TaskTree) (sound : IsSou
       let is = variable_said keeping m local.keeps tree s scope names.names n t both.0 none in
       let fits_wanted = subst (λ u. fits s.known from u ≡ true) (type_flawless keeping m local.keeps tree s scope names.names t none)
       (ap (λ u. fits s.known u (declared_type tree s t)) (sym begun) ∙ fit) in (
-        said_plainly keeping (at s line) y _ _ (is.begins from a.value fits_wanted, a.is),
+        said_plainly keeping (at s line) y _ _ _ (is.begins from a.value fits_wanted, a.is),
         is.kept,
         head_named tree task s n wanted (known_of_child s.next from ++ known_of_type wanted) (value_tells keeping s.names s.next wanted is.value).2 names.head.facts
             (ap (λ ks. ks ++ known_of_type wanted) (value_tells keeping s.names s.next from a.value).0 ∙ (value_tells keeping s.names s.next wanted is.value).2),

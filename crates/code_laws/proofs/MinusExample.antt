@@ -1,4 +1,4 @@
--- The premises of the law hold of a program with the difference of two partitions as a variable of a written type.
+-- The premises of the law hold of a program with the difference of two partitions, and a part, as variables of written types.
 use Rattle.std.proofs.Common.{[], refl, arith}
 use Rattle.std.specs.Int.{int_wrap}
 use Rattle.regent_tree.specs.Limits.{WithinLimits, parts_of_program}

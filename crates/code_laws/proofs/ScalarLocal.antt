@@ -13,7 +13,7 @@ use Rattle.regent_tree.specs.declared.types.TypeTerm.{TypeTerm}
 use Rattle.regent_tree.specs.declared.types.NumberTerm.{NumberTerm}
 use Rattle.regent_tree.specs.declared.types.NumberTerm.TheVariants as number
 use Rattle.regent_tree.specs.declared.types.TypeTerm.TheVariants as term
-use Rattle.local_form.specs.LocalForm.{Marked, is_partition_term, is_pointer_term, is_taken_term, marked_param, with_pointer, converts_to, gives_pointer, is_difference, is_partition_name, keeps_pointer, is_kept_term, is_pointing, marked_by_term, begins_part, takes_part, takes_partition_off, takes_value, with_either, with_partition, are_local_arms, are_local_expressions, are_local_links, are_local_params, are_scalar_params, gives_scalar, is_local_block, is_local_else, is_local_expression, is_local_form, is_local_item, is_local_program, is_local_task, is_index_or_space, is_local_param, is_local_with, is_region_term, links_give, marked_by, marked_by_arms, marked_by_else, marked_by_item, marked_by_items, marked_by_task, marked_in, marked_params, unmarked, with_index, with_region, is_said_term, takes_signs, is_index_if_said, is_local_result, with_index_task, says_difference}
+use Rattle.local_form.specs.LocalForm.{Marked, is_partition_term, is_pointer_term, is_taken_term, marked_param, with_pointer, converts_to, gives_pointer, is_difference, is_partition_name, keeps_pointer, is_kept_term, is_pointing, marked_by_term, begins_part, takes_part, takes_partition_off, takes_value, with_either, with_partition, are_local_arms, are_local_expressions, are_local_links, are_local_params, are_scalar_params, gives_scalar, is_local_block, is_local_else, is_local_expression, is_local_form, is_local_item, is_local_program, is_local_task, is_index_or_space, is_local_param, is_local_with, is_region_term, links_give, marked_by, marked_by_arms, marked_by_else, marked_by_item, marked_by_items, marked_by_task, marked_in, marked_params, unmarked, with_index, with_region, is_said_term, takes_signs, is_index_if_said, is_local_result, with_index_task, says_difference, says_part}
 use Rattle.code_laws.specs.LocalPrograms.{has_no_pointer, keeps_nothing, takes_scalars}
 use Rattle.code_laws.proofs.Typing.{no_way_back}
 use Rattle.scalar_form.specs.ScalarForm.{are_scalar_arms, are_scalar_expressions, are_scalar_links, is_empty, is_scalar_block, is_scalar_else, is_scalar_expression, is_scalar_form, is_scalar_if_said, is_scalar_item, is_scalar_number, is_scalar_program, is_scalar_task, is_scalar_term}
@@ -167,8 +167,11 @@ module _ (keeping : Bool) where
       )
   var_local n (Some t) (Some (plain_initializer e)) sc =
       let s = and_parts (is_scalar_term t) (is_scalar_expression e) sc in
-      let k = scalar_kept n t s.0 in
-      (or_right (says_difference bare n t e) _ (both_true (is_said_term bare n t) (is_local_expression bare e) k.1 (expression_local e s.1).0), k.2)
+      let k = scalar_kept n t s.0 in (
+        or_right (says_part bare n t e) _ (or_right (says_difference bare n t e) _
+            (both_true (is_said_term bare n t) (is_local_expression bare e) k.1 (expression_local e s.1).0)),
+        k.2,
+      )
   var_local n t (Some (region_initializer _ _)) sc = absurd (no_way_back (and_parts (is_scalar_if_said t) false sc).1)
   var_local n t (Some (equal_initializer _ _)) sc = absurd (no_way_back (and_parts (is_scalar_if_said t) false sc).1)
   var_local n t (Some (by_field_initializer _ _ _)) sc = absurd (no_way_back (and_parts (is_scalar_if_said t) false sc).1)

@@ -78,17 +78,17 @@ pub begun_apart : (b : Bool) (w : Where) (e : Expression) (B Part : Type 0) → 
 begun_apart false w e B Part q d = absurd (not_true q)
 begun_apart true w e B Part q d = inr d
 
-pub said_plainly : (b : Bool) (w : Where) (e : Expression) (B Like : Type 0) → B → IsSaid b w e B Like
-said_plainly false w e B Like p = p
-said_plainly true w e B Like p = inl p
+pub said_plainly : (b : Bool) (w : Where) (e : Expression) (B Part Like : Type 0) → B → IsSaid b w e B Part Like
+said_plainly false w e B Part Like p = p
+said_plainly true w e B Part Like p = inl p
 
-pub said_apart : (b : Bool) (w : Where) (e : Expression) (B Like : Type 0) → b ≡ true → IsDifference w e × Like → IsSaid b w e B Like
-said_apart false w e B Like q d = absurd (not_true q)
-said_apart true w e B Like q d = inr d
+pub said_apart : (b : Bool) (w : Where) (e : Expression) (B Part Like : Type 0) → b ≡ true → (IsDifference w e ⊎ Part) × Like → IsSaid b w e B Part Like
+said_apart false w e B Part Like q d = absurd (not_true q)
+said_apart true w e B Part Like q d = inr d
 
-pub said_either : (b : Bool) (w : Where) (e : Expression) (B Like : Type 0) → IsSaid b w e B Like → B ⊎ (IsDifference w e × Like)
-said_either false w e B Like p = inl p
-said_either true w e B Like p = p
+pub said_either : (b : Bool) (w : Where) (e : Expression) (B Part Like : Type 0) → IsSaid b w e B Part Like → B ⊎ ((IsDifference w e ⊎ Part) × Like)
+said_either false w e B Part Like p = inl p
+said_either true w e B Part Like p = p
 
 pub loops_over : (b : Bool) (w : Where) (e : Expression) → LoopsOver b w e → IsSpace (typed w e) ⊎ IsNamedRegion w e
 loops_over false w e p = inl p

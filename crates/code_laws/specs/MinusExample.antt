@@ -1,10 +1,11 @@
--- An accepted program with a variable of a written partition type that begins with the difference of two partitions.
+-- An accepted program with a variable of a written partition type that begins with the difference of two partitions, and one of a
+-- written region type that begins as a part of that.
 use Rattle.std.specs.Prelude.{◌≡◌, [], ◌∷◌, true}
 use Rattle.regent_tree.specs.Meaning.{meaning}
 use Rattle.regent_tree.specs.Syntax.{Tree}
 use Rattle.regent_tree.specs.declared.expression.Arithmetic.TheVariants.{Subtract}
 use Rattle.regent_tree.specs.declared.types.NumberTerm.TheVariants.{Int64}
-use Rattle.worked_examples.specs.Words.{access, at, calc, dot, each, equal, field_space, get, int, item, line, naturals, new_region, number, param, partition, prints, root, set, space, space_of, task, var_as, var_from}
+use Rattle.worked_examples.specs.Words.{access, at, calc, dot, each, equal, field_space, get, int, item, line, naturals, new_region, number, param, partition, prints, region, root, set, space, space_of, task, var_as, var_from}
 use Rattle.code_laws.specs.LocalPrograms.{IsLocalProgramRun}
 
 --     fspace f { x : int64 }
@@ -13,7 +14,8 @@ use Rattle.code_laws.specs.LocalPrograms.{IsLocalProgramRun}
 --       var p = partition(equal, r, ispace(int1d, 1))
 --       var q = partition(equal, r, ispace(int1d, 3))
 --       var d : partition(disjoint, r) = p - q
---       for e in d[0] do e.x = 7 end
+--       var s : region(ispace(int1d), f) = d[0]
+--       for e in s do e.x = 7 end
 --     end
 abbrev pub minus_program : Tree
 minus_program =
@@ -24,7 +26,8 @@ minus_program =
     ∷ line 4 (var_from "p" (equal "r" (space (int 1))))
     ∷ line 5 (var_from "q" (equal "r" (space (int 3))))
     ∷ line 6 (var_as "d" (partition true "r") (calc (get "p") Subtract (get "q")))
-    ∷ line 7 (each "e" (access "d" (at (int 0) ∷ [])) (line 7 (set "e" (dot "x" ∷ []) (int 7)) ∷ []))
+    ∷ line 7 (var_as "s" (region (space_of "f" [])) (access "d" (at (int 0) ∷ [])))
+    ∷ line 8 (each "e" (get "s") (line 8 (set "e" (dot "x" ∷ []) (int 7)) ∷ []))
     ∷ []))
     ∷ []
 

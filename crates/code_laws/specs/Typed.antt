@@ -140,10 +140,10 @@ abbrev pub IsBegun : Bool → Where → Expression → Type 0 → Type 0 → Typ
 IsBegun false w e Begins Part = Begins
 IsBegun true w e Begins Part = Begins ⊎ (IsDifference w e ⊎ Part)
 
--- so one of a written type begins, or also with such a difference, whose type it is like
-abbrev pub IsSaid : Bool → Where → Expression → Type 0 → Type 0 → Type 0
-IsSaid false w e Begins Like = Begins
-IsSaid true w e Begins Like = Begins ⊎ (IsDifference w e × Like)
+-- so one of a written type begins, or also with such a difference or as a part, whose type it is like
+abbrev pub IsSaid : Bool → Where → Expression → Type 0 → Type 0 → Type 0 → Type 0
+IsSaid false w e Begins Part Like = Begins
+IsSaid true w e Begins Part Like = Begins ⊎ ((IsDifference w e ⊎ Part) × Like)
 
 -- a pointer to an element of a region that has a name goes through the name's slot
 abbrev pub GoesThrough : Where → Name → Expression → Type 0
@@ -337,6 +337,7 @@ abbrev mutual
   IsTypedForm forms w (var_form n None (Some start)) = IsBegunBy forms w start
   IsTypedForm forms w (var_form n (Some t) (Some (plain_initializer e))) = IsSaid forms.keeps w e
       (BeginsWith forms.keeps w.scope.names (typed w e) (var_type w.tree w.scope (Some t) (Some (plain_initializer e))) × IsTyped forms w e)
+      (BeginsAsPart forms.takes w e (IsIndexed forms w e))
       (IsLike (var_type w.tree w.scope (Some t) (Some (plain_initializer e))) (initializer_type w.tree w.scope w.scope.next (plain_initializer e)))
   IsTypedForm forms w (var_form n (Some t) (Some start)) = (forms.keeps ≡ true)
       × IsLike (var_type w.tree w.scope (Some t) (Some start)) (initializer_type w.tree w.scope w.scope.next start) × IsBegunBy forms w start

@@ -146,8 +146,8 @@ pub fn given_example_holds()
     ensures { GivenExampleHolds }
 {}
 
-/// A program with the difference of two partitions as a variable of a written type, of which each premise of the law on
-/// accepted programs holds; it means an end.
+/// A program with the difference of two partitions, and a part, as variables of written types, of which each premise of the
+/// law on accepted programs holds; it means an end.
 #[tactic(auto, using(crate::proofs::MinusExample::minus_example_holds))]
 pub fn minus_example_holds()
     ensures { MinusExampleHolds }

@@ -40,6 +40,10 @@ is_said_term m n t = is_kept_term m n t
 abbrev pub says_difference : Marked → Name → TypeTerm → Expression → Bool
 says_difference m n t e = is_partition_term t && (is_difference m e && is_among m.partitions n)
 
+-- a region that begins as a part
+abbrev pub says_part : Marked → Name → TypeTerm → Expression → Bool
+says_part m n t e = is_region_term t && begins_part m n e
+
 -- a loop goes over a region that has a name, or a part of a partition that has one, and takes pointers, or over an index space
 abbrev pub is_local_domain : Marked → Name → Expression → Bool
 is_local_domain m n domain = ((is_region_name m domain || is_part m domain) && is_among m.pointers n) || is_local_expression m domain
@@ -47,14 +51,14 @@ is_local_domain m n domain = ((is_region_name m domain || is_part m domain) && i
 -- A variable begins with region(..), and its name is a region's; or with a partition that is equal or by a field, is the image
 -- or preimage of another, or has the points of both of two others or of either, and its name is a partition's; or with an
 -- expression, and where that may give an index, an index space or a pointer, so may the name. One of a written type that
--- begins with an expression or by itself is such as above; one without may begin with the difference of two partitions, or as
+-- begins with an expression or by itself is such as above; it may also begin with the difference of two partitions, or as
 -- a part of a partition, and then its name is a region's. No region or partition is assigned.
 abbrev mutual
   pub is_local_form : Marked → Form → Bool
   is_local_form m (var_form n None None) = true
   is_local_form m (var_form n (Some t) None) = is_kept_term m n t
   is_local_form m (var_form n (Some t) (Some (plain_initializer e))) =
-      says_difference m n t e || (is_said_term m n t && is_local_expression m e)
+      says_part m n t e || (says_difference m n t e || (is_said_term m n t && is_local_expression m e))
   is_local_form m (var_form n None (Some (plain_initializer e))) =
       begins_part m n e
       || ((gives_scalar m e || is_among m.indices n)

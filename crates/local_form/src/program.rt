@@ -5,25 +5,16 @@ ghost use Rattle.regent_tree.specs.PlainProgram.{item_of, item_tree_of, task_of,
 ghost use Rattle.local_form.specs.LocalForm.{are_local_params, is_local_item, is_local_param, is_local_result};
 ghost use Rattle.local_form.specs.Marks.{is_index_or_space};
 ghost use Rattle.local_form.specs.LocalForm.{is_local_program, is_local_task, is_local_with};
-ghost use Rattle.local_form.specs.Marks.{is_region_term, marked_by_task, marked_param, marked_params};
+ghost use Rattle.local_form.specs.Marks.{marked_by_task, marked_param, marked_params};
 
 use crate::fields::{are_local_fields, is_index_if_said, is_pointer_term, mark_items};
 use crate::marked::Marked;
 use crate::marking::mark_block;
 use crate::statements::is_local_block;
-use crate::terms::{is_partition_term, is_taken_term};
+use crate::terms::{is_partition_term, is_region_term, is_taken_term};
 use regent_tree::{Item, ItemKind, NumberTerm, Param, Program, Task, TypeTerm};
 use scalar_form::is_scalar_if_said;
 use std::alloc::{AllocError, Global};
-
-fn is_region_term(term: &TypeTerm) -> bool
-    ensures { result ≡ is_region_term term.now }
-{
-    match term {
-        TypeTerm::Region { .. } => true,
-        _ => false,
-    }
-}
 
 /// Whether a type is that of an index or an index space.
 fn is_index_or_space(term: &TypeTerm) -> bool

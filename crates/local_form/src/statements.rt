@@ -6,7 +6,7 @@ ghost use Rattle.regent_tree.specs.Plain.{expression_of, initializer_of, steps_i
 ghost use Rattle.regent_tree.specs.PlainProgram.{arms_in, block_in, form_of};
 ghost use Rattle.regent_tree.specs.Syntax.{assign_form, return_form, var_form};
 ghost use Rattle.local_form.specs.LocalForm.{are_local_arms, is_local_block, is_local_domain, is_local_form};
-ghost use Rattle.local_form.specs.LocalForm.{begins_part, keeps_pointer, says_difference};
+ghost use Rattle.local_form.specs.LocalForm.{begins_part, keeps_pointer, says_difference, says_part};
 ghost use Rattle.local_form.specs.Seen.{assigns_beside, begins_otherwise, is_local_arm};
 
 use crate::differences::is_difference;
@@ -17,7 +17,7 @@ use crate::expressions::{
 use crate::giving::{gives_pointer, gives_scalar, is_pointing};
 use crate::marked::Marked;
 use crate::steps::are_fields;
-use crate::terms::{is_kept_term, is_partition_term, is_said_term};
+use crate::terms::{is_kept_term, is_partition_term, is_region_term, is_said_term};
 use regent_tree::{Arm, Expr, How, Init, Name, Step, Stmt, TypeTerm, What};
 
 /// Whether a variable that begins with what may be a pointer is a copy of a name or an element, and known as such.
@@ -59,6 +59,13 @@ fn says_difference(marked: &Marked<'_>, name: &Name, term: &TypeTerm, value: &Ex
     is_partition_term(term) && is_difference(marked, value) && marked.is_partition(name)
 }
 
+/// Whether a variable is a region that begins as a part, and is known as one.
+fn says_part(marked: &Marked<'_>, name: &Name, term: &TypeTerm, value: &Expr) -> bool
+    ensures { result ≡ says_part marked.now name.now term.now (expression_of value.now) }
+{
+    is_region_term(term) && begins_part(marked, name, value)
+}
+
 /// Whether a variable is a number or truth, an index, an index space, a pointer, a region or a partition, each known as
 /// what it is.
 fn is_local_variable(
@@ -74,7 +81,8 @@ fn is_local_variable(
         (None, None) => true,
         (Some(term), None) => is_kept_term(marked, name, term),
         (Some(term), Some(Init::Plain(value))) => {
-            says_difference(marked, name, term, value)
+            says_part(marked, name, term, value)
+                || says_difference(marked, name, term, value)
                 || (is_said_term(marked, name, term) && is_local_expression(marked, value))
         }
         (None, Some(Init::Plain(value))) => {

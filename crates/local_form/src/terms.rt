@@ -3,7 +3,7 @@
 ghost use Rattle.std.specs.Prelude.{◌≡◌};
 ghost use Rattle.local_form.specs.LocalForm.{is_kept_term, is_said_term, is_taken_term};
 ghost use Rattle.local_form.specs.Expressions.{goes_to_name, goes_to_names};
-ghost use Rattle.local_form.specs.Marks.{is_partition_term};
+ghost use Rattle.local_form.specs.Marks.{is_partition_term, is_region_term};
 
 use crate::marked::Marked;
 use regent_tree::{Name, NumberTerm, PointerTerm, Ref, TypeTerm};
@@ -65,6 +65,16 @@ pub fn is_taken_term(marked: &Marked<'_>, name: &Name, term: &TypeTerm) -> bool
         TypeTerm::Region { .. } => true,
         TypeTerm::Partition { .. } => marked.keeps_partition(name),
         _ => is_said_term(marked, name, term),
+    }
+}
+
+/// Whether a type is a region's.
+pub fn is_region_term(term: &TypeTerm) -> bool
+    ensures { result ≡ is_region_term term.now }
+{
+    match term {
+        TypeTerm::Region { .. } => true,
+        _ => false,
     }
 }
 

@@ -1,9 +1,12 @@
 -- What is known where a task is looked at by the rules is so behind each statement.
-use Rattle.std.proofs.Common.{◌≡◌, ℕ, ◌<◌, Bool, List, [], ◌∷◌, ◌++◌, ◌&&◌, false, None, Some, refl, subst, sym, ⊎_elim, true}
+use Rattle.std.proofs.Common.{◌≡◌, ℕ, ◌<◌, Bool, List, [], ◌∷◌, ◌++◌, ◌&&◌, false, None, Some, ap, refl, subst, sym, ⊎_elim, true}
 use Rattle.regent_tree.specs.Scopes.{bound_as, knowing, known_of_type, Scope, with_name}
 use Rattle.regent_tree.specs.declared.facts.Known.TheVariants.{Made}
 use Rattle.regent_tree.specs.declared.typing.StaticType.{StaticType}
-use Rattle.regent_tree.specs.declared.typing.StaticType.TheVariants.{Partition as partition_type}
+use Rattle.regent_tree.specs.declared.typing.StaticType.TheVariants.{Partition as partition_type, Region as region_type}
+use Rattle.regent_tree.specs.StaticTypes.{Reach}
+use Rattle.regent_tree.specs.declared.facts.Term.TheVariants as place
+use Rattle.regent_tree.specs.declared.types.Kind.{Kind}
 use Rattle.regent_tree.specs.declared.expression.Arithmetic.TheVariants.{Subtract}
 use Rattle.regent_tree.specs.declared.expression.Operator.TheVariants.{Compute}
 use Rattle.regent_tree.specs.Syntax.{a_link, access_expr, at_step, chain_expr, Expression, Name, no_link, no_step, plain_initializer, region_initializer, both_initializer, by_field_initializer, either_initializer, equal_initializer, image_initializer, preimage_initializer, a_statement, Form, var_form, if_form, while_form, for_in_form, for_to_form, do_form, fill_form, call_form, assert_form, print_form, assign_form, return_form, Block, no_statement, then_statement, Arms, no_arm, an_arm, Otherwise, no_else, else_block}
@@ -26,7 +29,8 @@ use Rattle.sound_code.proofs.ArgumentTypes.{part_parent}
 use Rattle.code_laws.specs.Taking.{BeginsWhole, BeginsWithin}
 use Rattle.sound_code.proofs.Scoped.{region_found}
 use Rattle.sound_code.proofs.WholeTasks.{is_value, are_whole_arms, is_whole_block, is_whole_else, is_whole_expression, is_whole_form}
-use Rattle.sound_code.proofs.Wholes.{Asks, asks_first, asks_second, begun_whole, begun_worth, said_whole, said_worth, worth_simple, zero_worth}
+use Rattle.sound_code.proofs.Wholes.{Asks, asks_first, asks_second, begun_whole, begun_worth, said_worth, worth_simple, zero_worth}
+use Rattle.sound_code.proofs.SaidWholes.{said_whole}
 use Rattle.sound_code.proofs.Liking.{like_cut, like_root}
 use Rattle.sound_code.proofs.Taken.{looped_parts, taken_worth}
 use Rattle.sound_code.proofs.Grounds.{BeginsUnder, BeginsWholly, Ground}
@@ -85,21 +89,43 @@ module _ (forms : Forms) (t : TaskCode) (way : Way) where
   BeginsSo w = ((i : ℕ) → BeginsWhole forms.takes i → BeginsWholly way i)
       × (forms.keeps ≡ true → (i r : ℕ) → BeginsWithin forms.takes i r → r < i → BeginsUnder way w.params i r)
 
-  -- a part of a name's partition
-  piece_ground : (w : Where) (n : Name) (e : Expression) → forms.keeps ≡ true → BeginsAsPart forms.takes w e (IsIndexed forms w e) → BeginsSo w → On w w.scope →
-      On w (scope_after w.tree w.scope (var_form n None (Some (plain_initializer e))))
-  piece_ground w n (access_expr q (at_step i no_step)) keeps b h g =
+  -- a part of a name's partition, that a name of a region's type keeps
+  part_ground : (w : Where) (n q : Name) (i : Expression) (j : Kind) (sp : ℕ) (args : List Reach) → forms.keeps ≡ true →
+      BeginsAsPart forms.takes w (access_expr q (at_step i no_step)) (IsIndexed forms w (access_expr q (at_step i no_step))) → BeginsSo w → On w w.scope →
+      On w (knowing (with_name w.scope n (region_type j sp args (place.Name w.scope.next)) false)
+      (known_of_child w.scope.next (typed w (access_expr q (at_step i no_step))) ++ known_of_type (region_type j sp args (place.Name w.scope.next))))
+  part_ground w n q i j sp args keeps b h g =
       let s = w.scope in
       let kind = part_is w q i b.0.1 b.0.2 in
+      let u = region_type j sp args (place.Name s.next) in
       let r = parent_of (bound w q).static_type in
       let is = part_parent w q i b.0.0.partition b.0.2 in
       let found = region_found s.names r is in
       let low : r < s.next = subst (λ n. n < s.next) found.1 (found_among s.next s.names (bound_as s.names r) b.0.0.numbers found.0).1 in
-      subst (λ u. On w (knowing (with_name s n (owned s.next u) false) (known_of_child s.next u ++ known_of_type (owned s.next u)))) (sym kind.is)
-      (ground_piece t w.tree w.params way s n kind.kind kind.space kind.args (bound w q).number r (is_disjoint (bound w q).static_type) (colour_of s i)
+      subst (λ t. On w (knowing (with_name s n u false) (known_of_child s.next t ++ known_of_type u))) (sym kind.is)
+      (ground_piece t w.tree w.params way s n j sp args (bound w q).number r (is_disjoint (bound w q).static_type) (colour_of s i)
       (h.1 keeps s.next r b.2 low) (bound_as s.names r).static_type is b.1 (bound_as s.names r) found.0 refl
       (bound w q) (bound_among s.names q b.0.0.named) b.0.1 g)
+
+  piece_ground : (w : Where) (n : Name) (e : Expression) → forms.keeps ≡ true → BeginsAsPart forms.takes w e (IsIndexed forms w e) → BeginsSo w → On w w.scope →
+      On w (scope_after w.tree w.scope (var_form n None (Some (plain_initializer e))))
+  piece_ground w n (access_expr q (at_step i no_step)) keeps b h g =
+      let kind = part_is w q i b.0.1 b.0.2 in
+      subst (λ u. On w (knowing (with_name w.scope n u false) (known_of_child w.scope.next (typed w (access_expr q (at_step i no_step))) ++ known_of_type u)))
+      (sym (ap (owned w.scope.next) kind.is)) (part_ground w n q i kind.kind kind.space kind.args keeps b h g)
   piece_ground w n _ keeps b h g = absurd b
+
+  -- so of a written type
+  piece_said : (w : Where) (n : Name) (term : TypeTerm) (e : Expression) → forms.keeps ≡ true → BeginsAsPart forms.takes w e (IsIndexed forms w e) →
+      IsLike (var_type w.tree w.scope (Some term) (Some (plain_initializer e))) (initializer_type w.tree w.scope w.scope.next (plain_initializer e)) →
+      BeginsSo w → On w w.scope → On w (scope_after w.tree w.scope (var_form n (Some term) (Some (plain_initializer e))))
+  piece_said w n term (access_expr q (at_step i no_step)) keeps b like h g =
+      let kind = part_is w q i b.0.1 b.0.2 in
+      let u = var_type w.tree w.scope (Some term) (Some (plain_initializer (access_expr q (at_step i no_step)))) in
+      let is = like_root u kind.kind kind.space kind.args (place.Name w.scope.next) (subst (IsLike u) (ap (owned w.scope.next) kind.is) like) in
+      subst (λ u. On w (knowing (with_name w.scope n u false) (known_of_child w.scope.next (typed w (access_expr q (at_step i no_step))) ++ known_of_type u)))
+      (sym is.is) (part_ground w n q i is.kind kind.space is.args keeps b h g)
+  piece_said w n term _ keeps b like h g = absurd b
 
   mutual
     pub after_form_ground : (w : Where) (form : Form) → IsTypedForm forms w form → Asks forms.keeps (is_whole_form true w form) → BeginsSo w → On w w.scope → On w (scope_after w.tree w.scope form)
@@ -114,9 +140,8 @@ module _ (forms : Forms) (t : TaskCode) (way : Way) where
         (λ (b : (BeginsWith forms.keeps w.scope.names (typed w e) u × IsTyped forms w e) × Asks forms.keeps (is_value true u && is_whole_expression true w e)).
         ground_said t w.tree w.params way w.scope n (typed w e) u (begins_nothing w.scope.next w.scope.names _ u (beginning forms.keeps w.scope.names _ u b.0.0))
         (said_worth forms.keeps w.scope.names _ u b.0.0 (asks_first _ _ _ b.1)) g)
-        (λ d. minus_said w n term e d.1 d.2 g)
-        (said_whole forms.keeps w e u (is_whole_expression true w e) (IsTyped forms w e)
-        (IsLike u (initializer_type w.tree w.scope w.scope.next (plain_initializer e))) f whole)
+        (λ d. ⊎_elim (λ m. minus_said w n term e m d.2 g) (λ b. piece_said w n term e d.0 b.0 d.2 told g) d.1)
+        (said_whole forms.keeps forms.takes w e u (is_whole_expression true w e) (IsTyped forms w e) (IsIndexed forms w e) f whole)
     after_form_ground w (var_form n (Some term) None) f whole told g =
         let u = var_type w.tree w.scope (Some term) None in
         ground_declared t w.tree w.params way w.scope n u (zero_worth forms.keeps w.scope.names u f whole) g

@@ -4,7 +4,7 @@ use Rattle.std.specs.Prelude.{length}
 use Rattle.regent_tree.specs.declared.statement.How.TheVariants as how
 use Rattle.regent_tree.specs.declared.typing.Bound.{Bound}
 use Rattle.regent_tree.specs.Syntax.{no_step, field_step, at_step, plain_initializer, a_statement, Form, var_form, if_form, while_form, for_in_form, for_to_form, do_form, fill_form, call_form, assert_form, print_form, assign_form, return_form, Block, no_statement, then_statement, Arms, no_arm, an_arm, Otherwise, no_else, else_block}
-use Rattle.regent_tree.specs.Typing.{arithmetic_type, initializer_type, scope_after, scope_after_block, scope_after_else, owned, taken_from, var_type}
+use Rattle.regent_tree.specs.Typing.{arithmetic_type, scope_after, scope_after_block, scope_after_else, owned, taken_from, var_type}
 use Rattle.task_code.specs.declared.code.TaskCode.{TaskCode}
 use Rattle.task_code.specs.declared.instr.Instr.TheVariants as instr
 use Rattle.code_rules.specs.Initializers.{new_place}
@@ -18,7 +18,7 @@ use Rattle.fit_rules.specs.Marks.{Mark, stacked}
 use Rattle.fit_rules.specs.Fits.{Program}
 use Rattle.code_laws.proofs.Told.{arms_grow, block_grows, else_grows}
 use Rattle.code_laws.specs.Steps.{Forms}
-use Rattle.code_laws.specs.Pointers.{BeginsWith, IsLike}
+use Rattle.code_laws.specs.Pointers.{BeginsWith}
 use Rattle.code_laws.specs.Typed.{IsIndexed, IsKeepable, IsTyped, element_field, IsTypedForm, AreTypedArms, IsTypedElse, IsTypedBlock}
 use Rattle.fit_rules.specs.Shapes.{index}
 use Rattle.marked_code.specs.Marked.{leads_nowhere, typed_op}
@@ -31,14 +31,15 @@ use Rattle.check_rules.specs.types.Parts.{tests_of}
 use Rattle.check_laws.specs.MeantVisits.{meant_in_arms, meant_in_else, meant_within}
 use Rattle.sound_code.proofs.WholeTasks.{is_value, are_whole_arms, is_whole_block, is_whole_else, is_whole_expression, is_whole_form}
 use Rattle.sound_code.specs.Ways.{Way, shape_in, shape_of}
-use Rattle.sound_code.proofs.Wholes.{Asks, asks_first, asks_second, assigned_becomes, begun_whole, field_few, said_whole, set_worth, worth_named, worth_numbered, worth_simple, zero_worth}
+use Rattle.sound_code.proofs.Wholes.{Asks, asks_first, asks_second, assigned_becomes, begun_whole, field_few, set_worth, worth_named, worth_numbered, worth_simple, zero_worth}
+use Rattle.sound_code.proofs.SaidWholes.{said_whole}
 use Rattle.sound_code.proofs.Scoped.{Scoped}
 use Rattle.sound_code.proofs.ScopedNames.{scoped_bound, simple_scoped, zero_scoped}
 use Rattle.sound_code.proofs.Pointing.{reduce_behind_marked, set_behind_marked}
 use Rattle.sound_code.proofs.Copies.{begun_marked}
 use Rattle.sound_code.proofs.CutForms.{minus_marked, minus_said}
 use Rattle.sound_code.proofs.Saying.{said_marked}
-use Rattle.sound_code.proofs.Pieces.{piece_marked}
+use Rattle.sound_code.proofs.Pieces.{piece_marked, piece_said}
 use Rattle.sound_code.proofs.Started.{said_started, started}
 use Rattle.sound_code.proofs.Cuts.{cut_plain, cut_same}
 use Rattle.sound_code.proofs.NoCuts.{worth_no_partition}
@@ -130,9 +131,9 @@ module _ (g : Program) (t : TaskCode) (k slots : ℕ) (have : HasSlots t slots) 
         ⊎_elim
         (λ (b : (BeginsWith forms.keeps w.scope.names (typed w e) u × IsTyped forms w e) × Asks forms.keeps (is_value true u && is_whole_expression true w e)).
         said_marked g t k slots have forms way w m a x term e b.0.0 b.0.1 b.1 told pc st)
-        (λ d. minus_said g t k slots have forms way w m a x term e told d.0 d.1 d.2 (stored g t k slots have forms way w m a _ _ st.1))
-        (said_whole forms.keeps w e u (is_whole_expression true w e) (IsTyped forms w e)
-        (IsLike u (initializer_type w.tree w.scope w.scope.next (plain_initializer e))) f whole)
+        (λ d. ⊎_elim (λ minus. minus_said g t k slots have forms way w m a x term e told d.0 minus d.2 (stored g t k slots have forms way w m a _ _ st.1))
+        (λ part. piece_said g t k slots have forms way w m a x term e told up d.0 part.0 part.1 d.2 pc st (stored g t k slots have forms way w m a _ _ st.1)) d.1)
+        (said_whole forms.keeps forms.takes w e u (is_whole_expression true w e) (IsTyped forms w e) (IsIndexed forms w e) f whole)
     form_marked w m (var_form x (Some term) None) f whole a told within up pc st =
         let u = var_type w.tree w.scope (Some term) None in
         let zero = zeroed forms.keeps w.scope.names u f in

@@ -232,8 +232,11 @@ module _ (forms : Forms) where
         (value_few (owned w.scope.next (typed w e)) (var_few w few n None (Some (plain_initializer e)) k f)) (expr_few w few e k))) h
     form_few w few (var_form n (Some t) (Some (plain_initializer e))) k f h =
         let u = var_type w.tree w.scope (Some t) (Some (plain_initializer e)) in
-        or_map (is_partition (typed w e)) _ _ (and_map (is_value false u) (is_whole_expression false w e) _ _ (value_few u (var_few w few n (Some t) (Some (plain_initializer e)) k f))
-        (expr_few w few e (kept_right (parts_of_term t) (parts_of_expression e) k))) h
+        let inside = kept_right (parts_of_term t) (parts_of_expression e) k in
+        or_map (is_partition (typed w e)) _ _
+        (or_maps (takes_part false w e) _ (is_value false u && is_whole_expression false w e) _ (part_few w few e inside)
+        (and_map (is_value false u) (is_whole_expression false w e) _ _ (value_few u (var_few w few n (Some t) (Some (plain_initializer e)) k f))
+        (expr_few w few e inside))) h
     form_few w few (var_form n None (Some (region_initializer e u))) k f h = expr_few w few e k h
     form_few w few (var_form n None (Some (equal_initializer r e))) k f h = expr_few w few e k h
     form_few w few (var_form n None (Some (by_field_initializer r l e))) k f h = expr_few w few e k h

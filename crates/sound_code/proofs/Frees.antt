@@ -1,5 +1,5 @@
 -- What is asked of a task holds of one that is typed, where each fill names a field: each name that is read has a value.
-use Rattle.std.proofs.Common.{◌≡◌, ⊎_elim, ℕ, zero, suc, List, [], ◌∷◌, true, false, ◌&&◌, ◌||◌, None, Some, refl, sym, ap, subst}
+use Rattle.std.proofs.Common.{◌≡◌, ◌⊎◌, ⊎_elim, ℕ, zero, suc, List, [], ◌∷◌, true, false, ◌&&◌, ◌||◌, None, Some, refl, sym, ap, subst}
 use Rattle.std.specs.List.{list_all}
 use Rattle.std.specs.Prelude.{slice_get}
 use Rattle.std.proofs.lemmas.Bool.{and_parts, false≢true, or_left, or_right}
@@ -196,10 +196,12 @@ module _ (forms : Forms) (keeps : forms.keeps ≡ true) where
         ⊎_elim
         (λ (b : BeginsWith forms.keeps w.scope.names (typed w e) u × IsTyped forms w e).
         let both = begins_values w.scope.names (typed w e) u (beginning forms.keeps w.scope.names (typed w e) u b.0) in
-        or_right (is_partition (typed w e)) _ (both_true (is_value false u) (is_whole_expression false w e) both.1 (expr_whole w e b.1 both.0)))
-        (λ (d : IsDifference w e × IsLike u (initializer_type w.tree w.scope w.scope.next (plain_initializer e))).
-        or_left (is_partition (typed w e)) _ (difference_sort w e d.0))
-        (said_either forms.keeps w e (BeginsWith forms.keeps w.scope.names (typed w e) u × IsTyped forms w e)
+        or_right (is_partition (typed w e)) _ (or_right (takes_part false w e) _
+        (both_true (is_value false u) (is_whole_expression false w e) both.1 (expr_whole w e b.1 both.0))))
+        (λ (d : (IsDifference w e ⊎ BeginsAsPart forms.takes w e (IsIndexed forms w e)) × IsLike u (initializer_type w.tree w.scope w.scope.next (plain_initializer e))).
+        ⊎_elim (λ c. or_left (is_partition (typed w e)) _ (difference_sort w e c))
+        (λ c. or_right (is_partition (typed w e)) _ (or_left (takes_part false w e) _ (begins_whole w e c))) d.0)
+        (said_either forms.keeps w e (BeginsWith forms.keeps w.scope.names (typed w e) u × IsTyped forms w e) (BeginsAsPart forms.takes w e (IsIndexed forms w e))
         (IsLike u (initializer_type w.tree w.scope w.scope.next (plain_initializer e))) f)
     form_whole w (var_form n None (Some (region_initializer e u))) f h = expr_whole w e f.2 (space_value _ f.1)
     form_whole w (var_form n None (Some (equal_initializer r e))) f h = expr_whole w e f.2 (space_value _ f.1)

@@ -12,6 +12,7 @@ pub mod Asked
 pub mod Counting
 pub mod WholeTasks
 pub mod Wholes
+pub mod SaidWholes
 pub mod NoCuts
 pub mod Truths
 pub mod FewTypes

@@ -1,4 +1,5 @@
--- A variable that begins as a part of a partition has marks: its region lies within the one of which the partition is, as a fact tells.
+-- A variable that begins as a part of a partition, of a written type or not, has marks: its region lies within the one of which the
+-- partition is, as a fact tells.
 use Rattle.std.proofs.Common.{◌≡◌, inl, inr, ⊎_elim, ℕ, suc, ◌<◌, ◌≤◌, List, [], ◌∷◌, ◌++◌, Bool, true, false, cond, None, Option, Some, refl, sym, ap, ◌∙◌, subst, arith}
 use Rattle.std.specs.Prelude.{length, nat_le}
 use Rattle.std.proofs.lemmas.Bool.{and_parts, le-leb}
@@ -8,7 +9,7 @@ use Rattle.regent_tree.specs.Lookup.{is_bound}
 use Rattle.regent_tree.specs.Scopes.{bound_as, known_of_type}
 use Rattle.regent_tree.specs.StaticTypes.{Reach}
 use Rattle.regent_tree.specs.Syntax.{access_expr, at_step, Expression, Form, Name, no_step, plain_initializer, TaskTree, var_form}
-use Rattle.regent_tree.specs.Typing.{known_of_child, owned, parent_of, scope_after}
+use Rattle.regent_tree.specs.Typing.{known_of_child, owned, parent_of, scope_after, var_type}
 use Rattle.regent_tree.specs.declared.facts.Colour.{Colour as WrittenColour}
 use Rattle.regent_tree.specs.declared.facts.Colour.TheVariants.{Unknown}
 use Rattle.regent_tree.specs.declared.facts.Known.{Known}
@@ -16,6 +17,7 @@ use Rattle.regent_tree.specs.declared.facts.Known.TheVariants.{Within}
 use Rattle.regent_tree.specs.declared.facts.Term.{Term}
 use Rattle.regent_tree.specs.declared.facts.Term.TheVariants as term
 use Rattle.regent_tree.specs.declared.types.Kind.{Kind}
+use Rattle.regent_tree.specs.declared.types.TypeTerm.{TypeTerm}
 use Rattle.regent_tree.specs.declared.typing.Bound.{Bound}
 use Rattle.regent_tree.specs.declared.typing.StaticType.{StaticType}
 use Rattle.regent_tree.specs.declared.typing.StaticType.TheVariants.{Region as region_type}
@@ -24,13 +26,14 @@ use Rattle.task_code.specs.declared.instr.Instr.TheVariants as instr
 use Rattle.machine_terms.specs.declared.value.Value.{Value}
 use Rattle.machine_terms.specs.declared.value.Value.TheVariants as value
 use Rattle.code_rules.specs.Expressions.{expr_code}
-use Rattle.code_rules.specs.Initializers.{plain_code}
+use Rattle.code_rules.specs.Initializers.{initializer_code, plain_code, written_code}
 use Rattle.code_rules.specs.Pieces.{empty, op, Piece, ◌⨟◌}
 use Rattle.code_rules.specs.Slots.{bound, slot_bound, slot_named, typed, Where}
 use Rattle.code_rules.specs.Statements.{after_form, form_code}
 use Rattle.check_laws.proofs.Scopes.{found_by_number}
 use Rattle.code_laws.specs.Arguments.{IsCutName}
 use Rattle.code_laws.specs.Handing.{told_in}
+use Rattle.code_laws.specs.Pointers.{IsLike}
 use Rattle.code_laws.specs.Simple.{a_region_type, IsPartition, IsRegion, term_in}
 use Rattle.code_laws.specs.Standing.{Stands}
 use Rattle.code_laws.specs.Steps.{Forms}
@@ -50,6 +53,7 @@ use Rattle.sound_code.proofs.Combining.{behind_kept, both, fixed_to, fixing, Mar
 use Rattle.sound_code.proofs.Cuts.{cut_bound, place_as}
 use Rattle.sound_code.proofs.Cutting.{knowing, storing_piece}
 use Rattle.sound_code.proofs.Grounds.{BeginsUnder, Ground, Kept, top_behind, top_in}
+use Rattle.sound_code.proofs.Liking.{like_root}
 use Rattle.sound_code.proofs.Narrowing.{narrow_itself, narrow_set}
 use Rattle.sound_code.proofs.Numbering.{numbered_at, numbered_more}
 use Rattle.sound_code.proofs.Parts.{coloured, cut_of, parent_there, piece_taken}
@@ -119,8 +123,8 @@ own_told next p z _ (a_region_type k sp args (term.Child q c)) (inl e) = ap uppe
 own_told next p z _ (a_region_type k sp args (term.Child q c)) (inr h) = absurd h
 own_told next p z _ (a_region_type k sp args (term.Name i)) h = absurd h
 
-no_type_told : (next : ℕ) (u : StaticType) → IsRegion u → (k : Known) → Has (known_of_type (owned next u)) k → ⊥
-no_type_told next _ (a_region_type k sp args r) d h = absurd h
+no_type_told : (u : StaticType) → IsRegion u → (k : Known) → Has (known_of_type u) k → ⊥
+no_type_told _ (a_region_type k sp args r) d h = absurd h
 
 module _ (g : Program) (t : TaskCode) (k slots : ℕ) (have : HasSlots t slots) (forms : Forms) (way : Way) (w : Where) (m : Mark)
     (asked : Asked g t k slots forms way w m) where
@@ -191,20 +195,22 @@ module _ (g : Program) (t : TaskCode) (k slots : ℕ) (have : HasSlots t slots) 
       }
 
   -- what is told of the next region, where it is the part by an index
-  said_piece : (x q : Name) (i : Expression) (cut : IsCutName w q) (is : IsRegion (typed w (access_expr q (at_step i no_step)))) → forms.keeps ≡ true →
-      UpTo way w.tree (scope_after w.tree w.scope (var_form x None (Some (plain_initializer (access_expr q (at_step i no_step)))))) → IsSaidPiece q (colour_at w i)
-  said_piece x q i cut is keeps up tops task by p z h =
+  said_piece : (x q : Name) (i : Expression) (cut : IsCutName w q) (is : IsRegion (typed w (access_expr q (at_step i no_step)))) (said : Option TypeTerm) →
+      IsRegion (var_type w.tree w.scope said (Some (plain_initializer (access_expr q (at_step i no_step))))) → forms.keeps ≡ true →
+      UpTo way w.tree (scope_after w.tree w.scope (var_form x said (Some (plain_initializer (access_expr q (at_step i no_step)))))) → IsSaidPiece q (colour_at w i)
+  said_piece x q i cut is said new_is keeps up tops task by p z h =
       let k = Within (term.Name w.scope.next) (term.Child p z) in
       let y = access_expr q (at_step i no_step) in
       let kept = subst (λ v. Ground t v w.tree w.params w.scope) by asked.ground in
       let scoped = subst (λ v. ScopedBy v w.scope.names) by (asked.scoped keeps) in
-      let upto = subst (λ v. UpTo v w.tree (scope_after w.tree w.scope (var_form x None (Some (plain_initializer y))))) by up in
+      let upto = subst (λ v. UpTo v w.tree (scope_after w.tree w.scope (var_form x said (Some (plain_initializer y))))) by up in
       let kc = known_of_child w.scope.next (typed w y) in
-      let kt = known_of_type (owned w.scope.next (typed w y)) in
+      let u = var_type w.tree w.scope said (Some (plain_initializer y)) in
+      let kt = known_of_type u in
       let own : term_in (typed w y) ≡ term.Child p z = ⊎_elim
       (λ g. ⊎_elim
       (λ old. absurd (none_old kept old))
-      (λ new. ⊎_elim (own_told w.scope.next p z (typed w y) is) (λ d. absurd (no_type_told w.scope.next (typed w y) is k d)) (Has-append_cases kc kt k new))
+      (λ new. ⊎_elim (own_told w.scope.next p z (typed w y) is) (λ d. absurd (no_type_told u new_is k d)) (Has-append_cases kc kt k new))
       (Has-append_cases w.scope.known (kc ++ kt) k g))
       (λ more. absurd (behind_it (upto.behind k more)))
       (Has-append_cases (w.scope.known ++ (kc ++ kt)) upto.more k (subst (λ ks. Has ks k) upto.known h)) in
@@ -227,6 +233,44 @@ module _ (g : Program) (t : TaskCode) (k slots : ℕ) (have : HasSlots t slots) 
           (λ d. let same : w.scope.next ≡ d.own = ap number_in d.is_lower in omega (arith, same, d.low))
           (kept.head.within (term.Name w.scope.next) (term.Child p z) (Contains-from_Has w.scope.known _ old))
 
+  -- a part that a variable of a region's type keeps
+  part_kept : (x q : Name) (i : Expression) (said : Option TypeTerm) → ToldForm way w.tree w.scope (var_form x said (Some (plain_initializer (access_expr q (at_step i no_step))))) →
+      UpTo way w.tree (scope_after w.tree w.scope (var_form x said (Some (plain_initializer (access_expr q (at_step i no_step)))))) → forms.keeps ≡ true →
+      (b : BeginsAsPart forms.takes w (access_expr q (at_step i no_step)) (IsIndexed forms w (access_expr q (at_step i no_step)))) →
+      takes_part true w (access_expr q (at_step i no_step)) ≡ true → (j : Kind) (args : List Reach) →
+      var_type w.tree w.scope said (Some (plain_initializer (access_expr q (at_step i no_step))))
+      ≡ region_type j (part_is w q i b.0.1 b.0.2).space args (term.Name w.scope.next) →
+      initializer_code w said (var_type w.tree w.scope said (Some (plain_initializer (access_expr q (at_step i no_step)))))
+      (Some (plain_initializer (access_expr q (at_step i no_step)))) ≡ expr_code w 0 (access_expr q (at_step i no_step)) ⨟ empty → (pc : ℕ) →
+      Stands t.body pc (form_code w (var_form x said (Some (plain_initializer (access_expr q (at_step i no_step)))))) → slot_at w.params (length w.scope.names) < length m.slots →
+      Followed g t k forms.keeps way w.tree w.params (after_form w (var_form x said (Some (plain_initializer (access_expr q (at_step i no_step)))))).scope.names m
+      (form_code w (var_form x said (Some (plain_initializer (access_expr q (at_step i no_step))))))
+  part_kept x q i said told up keeps b whole j args type code pc st hi =
+      let y = access_expr q (at_step i no_step) in
+      let form = var_form x said (Some (plain_initializer y)) in
+      let names = w.scope.names in
+      let own = var_type w.tree w.scope said (Some (plain_initializer y)) in
+      let kind = part_is w q i b.0.1 b.0.2 in
+      let r = parent_of (bound w q).static_type in
+      let cut = b.0.0 in
+      let is = part_parent w q i cut.partition b.0.2 in
+      let found = region_found names r is in
+      let low : r < w.scope.next = subst (λ n. n < w.scope.next) found.1 (found_among w.scope.next names (bound_as names r) cut.numbers found.0).1 in
+      let there = parent_there g t k slots forms way w m asked q keeps cut in
+      let stands = subst (Stands t.body pc) code st.0 in
+      let taken = both g t k (piece_taken g t k slots forms way w m asked q keeps cut 0 [] (bound w q).static_type i (colour_at w i) cut.partition b.0.3.1
+      (λ p s. coloured g t k slots forms way w m asked 0 [] i b.0.3.0 b.0.3.1 (value_marked g t k slots have forms way w m asked i [] b.0.3.0 (λ a. (and_parts _ _ whole).1)
+      (told_at w.tree w.scope way q i (told_head w.tree w.scope way form y refl told)) p s)) pc stands.0) (nothing_done g t k _) in
+      let new_is = subst IsRegion (sym type) (a_region_type j kind.space args (term.Name w.scope.next)) in
+      let store = op (instr.Store (slot_at w.params (length names))) w.line in
+      subst (λ (c : Piece). Followed g t k forms.keeps way w.tree w.params (new_name g t k slots have forms way w m asked x own ∷ names) m (c ⨟ store)) (sym code)
+      (subst (λ u. Followed g t k forms.keeps way w.tree w.params (new_name g t k slots have forms way w m asked x u ∷ names) m ((expr_code w 0 y ⨟ empty) ⨟ store)) (sym type)
+      (bind_part x q (colour_at w i) (colour_steady w i) cut.named (said_piece x q i cut b.0.2 said new_is keeps up) j kind.space args r form (expr_code w 0 y ⨟ empty) keeps told is
+      (cut_of g t k slots forms way w m asked q keeps cut).fact (begins_under forms t way w.tree w.params w.scope.next r asked.params keeps asked.hands b.2 low) (ruled g t k slots forms way w m asked keeps).kept.next
+      (numbered_at names m.slots _ _ asked.ready.numbered there)
+      (subst (λ sp. Marked g t k (stacked m []) (expr_code w 0 y ⨟ empty)
+      (topped m (region (Some sp) (part (origin_in way w.params (term.Name r))) ∷ []) (top_at (child_in (slot_named w q) (colour_at w i))))) (sym kind.of_space) taken) hi))
+
   -- `var x = q[i]`
   pub piece_marked : (x : Name) (e : Expression) → ToldForm way w.tree w.scope (var_form x None (Some (plain_initializer e))) →
       UpTo way w.tree (scope_after w.tree w.scope (var_form x None (Some (plain_initializer e)))) → forms.keeps ≡ true →
@@ -235,25 +279,22 @@ module _ (g : Program) (t : TaskCode) (k slots : ℕ) (have : HasSlots t slots) 
       Followed g t k forms.keeps way w.tree w.params (after_form w (var_form x None (Some (plain_initializer e)))).scope.names m
       (form_code w (var_form x None (Some (plain_initializer e))))
   piece_marked x (access_expr q (at_step i no_step)) told up keeps b whole pc st hi =
-      let y = access_expr q (at_step i no_step) in
-      let form = var_form x None (Some (plain_initializer y)) in
-      let names = w.scope.names in
       let kind = part_is w q i b.0.1 b.0.2 in
-      let r = parent_of (bound w q).static_type in
-      let cut = b.0.0 in
-      let is = part_parent w q i cut.partition b.0.2 in
-      let found = region_found names r is in
-      let low : r < w.scope.next = subst (λ n. n < w.scope.next) found.1 (found_among w.scope.next names (bound_as names r) cut.numbers found.0).1 in
-      let there = parent_there g t k slots forms way w m asked q keeps cut in
-      let code = subst (λ u. Stands t.body pc (plain_code w (owned w.scope.next u) y)) kind.is st.0 in
-      let taken = both g t k (piece_taken g t k slots forms way w m asked q keeps cut 0 [] (bound w q).static_type i (colour_at w i) cut.partition b.0.3.1
-      (λ p s. coloured g t k slots forms way w m asked 0 [] i b.0.3.0 b.0.3.1 (value_marked g t k slots have forms way w m asked i [] b.0.3.0 (λ a. (and_parts _ _ whole).1)
-      (told_at w.tree w.scope way q i (told_head w.tree w.scope way form y refl told)) p s)) pc code.0) (nothing_done g t k _) in
-      subst (λ u. Followed g t k forms.keeps way w.tree w.params (new_name g t k slots have forms way w m asked x (owned w.scope.next u) ∷ names) m
-      (plain_code w (owned w.scope.next u) y ⨟ op (instr.Store (slot_at w.params (length names))) w.line)) (sym kind.is)
-      (bind_part x q (colour_at w i) (colour_steady w i) cut.named (said_piece x q i cut b.0.2 keeps up) kind.kind kind.space kind.args r form (expr_code w 0 y ⨟ empty) keeps told is
-      (cut_of g t k slots forms way w m asked q keeps cut).fact (begins_under forms t way w.tree w.params w.scope.next r asked.params keeps asked.hands b.2 low) (ruled g t k slots forms way w m asked keeps).kept.next
-      (numbered_at names m.slots _ _ asked.ready.numbered there)
-      (subst (λ sp. Marked g t k (stacked m []) (expr_code w 0 y ⨟ empty)
-      (topped m (region (Some sp) (part (origin_in way w.params (term.Name r))) ∷ []) (top_at (child_in (slot_named w q) (colour_at w i))))) (sym kind.of_space) taken) hi)
+      part_kept x q i None told up keeps b whole kind.kind kind.args (ap (owned w.scope.next) kind.is)
+      (ap (λ u. plain_code w (owned w.scope.next u) (access_expr q (at_step i no_step))) kind.is) pc st hi
   piece_marked x _ told up keeps b whole pc st hi = absurd b
+
+  -- `var x : t = q[i]`
+  pub piece_said : (x : Name) (said : TypeTerm) (e : Expression) → ToldForm way w.tree w.scope (var_form x (Some said) (Some (plain_initializer e))) →
+      UpTo way w.tree (scope_after w.tree w.scope (var_form x (Some said) (Some (plain_initializer e)))) → forms.keeps ≡ true →
+      BeginsAsPart forms.takes w e (IsIndexed forms w e) → takes_part true w e ≡ true →
+      IsLike (var_type w.tree w.scope (Some said) (Some (plain_initializer e))) (owned w.scope.next (typed w e)) → (pc : ℕ) →
+      Stands t.body pc (form_code w (var_form x (Some said) (Some (plain_initializer e)))) → slot_at w.params (length w.scope.names) < length m.slots →
+      Followed g t k forms.keeps way w.tree w.params (after_form w (var_form x (Some said) (Some (plain_initializer e)))).scope.names m
+      (form_code w (var_form x (Some said) (Some (plain_initializer e))))
+  piece_said x said (access_expr q (at_step i no_step)) told up keeps b whole like pc st hi =
+      let kind = part_is w q i b.0.1 b.0.2 in
+      let u = var_type w.tree w.scope (Some said) (Some (plain_initializer (access_expr q (at_step i no_step)))) in
+      let is = like_root u kind.kind kind.space kind.args (term.Name w.scope.next) (subst (IsLike u) (ap (owned w.scope.next) kind.is) like) in
+      part_kept x q i (Some said) told up keeps b whole is.kind is.args is.is (ap (λ v. written_code w v (access_expr q (at_step i no_step))) is.is) pc st hi
+  piece_said x said _ told up keeps b whole like pc st hi = absurd b

@@ -84,7 +84,8 @@ abbrev mutual
       is_partition (typed w e)
       || (takes_part few w e || (is_value few (var_type w.tree w.scope None (Some (plain_initializer e))) && is_whole_expression few w e))
   is_whole_form few w (var_form n (Some t) (Some (plain_initializer e))) =
-      is_partition (typed w e) || (is_value few (var_type w.tree w.scope (Some t) (Some (plain_initializer e))) && is_whole_expression few w e)
+      is_partition (typed w e)
+      || (takes_part few w e || (is_value few (var_type w.tree w.scope (Some t) (Some (plain_initializer e))) && is_whole_expression few w e))
   is_whole_form few w (var_form n t (Some (region_initializer e u))) = is_whole_expression few w e
   is_whole_form few w (var_form n t (Some (equal_initializer r e))) = is_whole_expression few w e
   is_whole_form few w (var_form n t (Some (by_field_initializer r f e))) = is_whole_expression few w e

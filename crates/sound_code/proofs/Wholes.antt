@@ -15,10 +15,10 @@ use Rattle.regent_tree.specs.StaticTypes.{Reach}
 use Rattle.check_rules.specs.types.Sorts.{is_partition, is_region}
 use Rattle.code_rules.specs.Slots.{bound, typed, Where}
 use Rattle.code_laws.specs.Arguments.{IsHanded, IsHandedPart}
-use Rattle.code_laws.specs.Pointers.{a_pointer_type, Assigned, assigned_plain, assigned_pointer, Begins, begins_plain, begins_pointer, Filled, filled_index, filled_plain, filled_pointer, fills_alike, fills_index, GoesInto, into_index, into_plain, into_space, BeginsAs, BeginsWith, IsAssigned, KeepsAs, keeps_index, keeps_plain, keeps_pointer, zero_scalar, IsPointer, IsRead, Passes, passes_plain, passes_pointer, PassesInto}
+use Rattle.code_laws.specs.Pointers.{a_pointer_type, Assigned, assigned_plain, assigned_pointer, Begins, begins_plain, begins_pointer, Filled, filled_index, filled_plain, filled_pointer, fills_alike, fills_index, GoesInto, into_index, into_plain, BeginsAs, BeginsWith, IsAssigned, KeepsAs, keeps_index, keeps_plain, keeps_pointer, zero_scalar, IsPointer, IsRead, Passes, passes_plain, passes_pointer, PassesInto}
 use Rattle.code_laws.specs.Simple.{a_partition_type, a_region_type, AreAlike, AreRegions, IsPartition, IsRegion, fits_32, fits_64, fits_truth, IsSimple, number_index, number_integer, simple_index, simple_integer, simple_space, simple_truth, two_integers, two_regions, two_truths}
 use Rattle.code_laws.specs.Steps.{Forms, Taking}
-use Rattle.code_laws.specs.Typed.{AreFurther, BeginsAsPart, IsBegun, IsDifference, IsKeepable, IsSaid}
+use Rattle.code_laws.specs.Typed.{AreFurther, BeginsAsPart, IsBegun, IsDifference, IsKeepable}
 use Rattle.code_laws.proofs.Arguments.{alike_other, given_by, goes_other, IsCutArgument, IsNoRegion, IsPartArgument, passes_other}
 use Rattle.code_laws.proofs.Wider.{into_simple, keepable, zero_simple}
 use Rattle.lane_kernels.specs.declared.numbers.FieldKind.{FieldKind}
@@ -308,26 +308,6 @@ begun_whole true o w e v Typed Part (inl p) h =
     )
 begun_whole true o w e v Typed Part (inr (inl d)) h = inr (refl, inl d)
 begun_whole true o w e v Typed Part (inr (inr d)) h = inr (refl, inr (d, part_begins o w e v Part d (h refl)))
-
--- nor so where its type is written
-begins_no_cut : (bs : List Bound) (t u : StaticType) → Begins bs t u → is_partition t ≡ true → ⊥
-begins_no_cut bs _ _ (begins_plain _ _ (into_plain _ _ (fills_alike _ _ (two_integers v w)))) e = false≢true e
-begins_no_cut bs _ _ (begins_plain _ _ (into_plain _ _ (fills_alike _ _ two_truths))) e = false≢true e
-begins_no_cut bs _ _ (begins_plain _ _ (into_plain _ _ (fills_index _ k (number_integer w)))) e = false≢true e
-begins_no_cut bs _ _ (begins_plain _ _ (into_plain _ _ (fills_index _ k (number_index j)))) e = false≢true e
-begins_no_cut bs _ _ (begins_plain _ _ (into_index k sp args rs j)) e = false≢true e
-begins_no_cut bs _ _ (begins_plain _ _ (into_space j k)) e = false≢true e
-begins_no_cut bs _ _ (begins_pointer _ u (a_pointer_type k sp args rs names) wr) e = false≢true e
-
--- how one of a written type begins: with such a value, or a difference of partitions
-pub said_whole : (b : Bool) (w : Where) (e : Expression) (u : StaticType) (v : Bool) (Typed Like : Type 0) →
-    IsSaid b w e (BeginsWith b w.scope.names (typed w e) u × Typed) Like →
-    Asks b (is_partition (typed w e) || (is_value true u && v)) →
-    ((BeginsWith b w.scope.names (typed w e) u × Typed) × Asks b (is_value true u && v)) ⊎ ((b ≡ true) × IsDifference w e × Like)
-said_whole false w e u v Typed Like p h = inl (p, not_kept false (is_value true u && v) refl)
-said_whole true w e u v Typed Like (inl p) h =
-    inl (p, λ q. ⊎_elim (λ c. absurd (begins_no_cut w.scope.names (typed w e) u p.0 c)) (λ y. y) (or_cases (is_partition (typed w e)) _ (h q)))
-said_whole true w e u v Typed Like (inr d) h = inr (refl, d.0, d.1)
 
 -- a part that a variable begins as
 region_few : (t : StaticType) → IsRegion t → HasFew t

@@ -1,14 +1,15 @@
--- An accepted program of which variables begin as parts, so that the law on whole programs is a law of something there: such a one is
--- filled, handed over and cut further, a variable begins as a part of that too, constraints say that it lies within the first region, and
--- within the one of which it is a part, which lies within itself, and that two parts of one partition share no point, and a partition is
--- handed over with the region that it is of. Parts that have no name are handed over beside these, within one of which those that have lie.
+-- An accepted program of which variables begin as parts, two of them of a written type, so that the law on whole programs is a law of
+-- something there: such a one is filled, handed over and cut further, a variable begins as a part of that too, constraints say that it
+-- lies within the first region, and within the one of which it is a part, which lies within itself, and that two parts of one partition
+-- share no point, and a partition is handed over with the region that it is of. Parts that have no name are handed over beside these,
+-- within one of which those that have lie.
 use Rattle.std.specs.Prelude.{[], ◌∷◌, codes, pos, true}
 use Rattle.lane_kernels.specs.declared.numbers.Op.TheVariants.{Sum}
 use Rattle.regent_tree.specs.Syntax.{Tree}
 use Rattle.regent_tree.specs.declared.program.Clause.TheVariants as clause
 use Rattle.regent_tree.specs.declared.program.Grant.TheVariants.{Reads, Writes}
 use Rattle.regent_tree.specs.declared.types.NumberTerm.TheVariants.{Int64}
-use Rattle.worked_examples.specs.Words.{access, at, call, dot, each, equal, field_space, fields, fill, get, grants, int, item, line, new_region, number, param, partition, reduce, region, space, space_of, task, var, var_from}
+use Rattle.worked_examples.specs.Words.{access, at, call, dot, each, equal, field_space, fields, fill, get, grants, int, item, line, new_region, number, param, partition, reduce, region, space, space_of, task, var, var_as, var_from}
 use Rattle.sound_code.specs.Programs.{IsWholeProgramRun, LocalRunsSoundly}
 
 --     fspace f { x : int64 }
@@ -30,11 +31,11 @@ use Rattle.sound_code.specs.Programs.{IsWholeProgramRun, LocalRunsSoundly}
 --       var r = region(ispace(int1d, 4), f)
 --       fill(r.x, n)
 --       var p = partition(equal, r, ispace(int1d, 2))
---       var u = p[0]
+--       var u : region(ispace(int1d), f) = p[0]
 --       var v = p[1]
 --       two(u, v)
 --       for c in p.colors do
---         var q = p[c]
+--         var q : region(ispace(int1d), f) = p[c]
 --         fill(q.x, n)
 --         raise(q)
 --         var h = partition(equal, q, ispace(int1d, 2))
@@ -80,11 +81,11 @@ pieces_program =
     (line 17 (var_from "r" (new_region (space (int 4)) (space_of "f" [])))
     ∷ line 18 (fill "r" ("x" ∷ []) (get "n"))
     ∷ line 19 (var_from "p" (equal "r" (space (int 2))))
-    ∷ line 20 (var "u" (access "p" (at (int 0) ∷ [])))
+    ∷ line 20 (var_as "u" (region (space_of "f" [])) (access "p" (at (int 0) ∷ [])))
     ∷ line 21 (var "v" (access "p" (at (int 1) ∷ [])))
     ∷ line 22 (call "two" (get "u" ∷ get "v" ∷ []))
     ∷ line 23 (each "c" (access "p" (dot "colors" ∷ []))
-    (line 24 (var "q" (access "p" (at (get "c") ∷ [])))
+    (line 24 (var_as "q" (region (space_of "f" [])) (access "p" (at (get "c") ∷ [])))
     ∷ line 25 (fill "q" ("x" ∷ []) (get "n"))
     ∷ line 26 (call "raise" (get "q" ∷ []))
     ∷ line 27 (var_from "h" (equal "q" (space (int 2))))
