@@ -1,9 +1,9 @@
 -- What one operation covers is listed no more of earlier ones: what is left of an entry, and what was taken out of it.
-use Rattle.std.proofs.Common.{◌≡◌, ◌<◌, ◌⊎◌, ◌++◌, ◌∷◌, ◌∙◌, ◌==◌, ◌&&◌, ◌||◌, ⊎_elim, inl, inr, ℕ, zero, suc, Bool, List, None, Option, Some, [], ap, arith, cond, eq-eqb, eqb-true, false, length, map, not, refl, subst, sym, true}
+use Rattle.std.proofs.Common.{◌≡◌, ◌<◌, ◌⊎◌, ◌∷◌, ◌∙◌, ◌==◌, ◌&&◌, ◌||◌, ⊎_elim, inl, inr, ℕ, zero, suc, Bool, List, None, Option, Some, [], ap, arith, cond, eq-eqb, eqb-true, false, length, map, not, refl, subst, sym, true}
 use Rattle.std.specs.Prelude.{All, filter, nat_lt}
 use Rattle.std.specs.List.{Contains, list_any}
 use Rattle.std.proofs.lemmas.Bool.{and_from, and_parts, lt-ltb, not-false, or_cases}
-use Rattle.std.proofs.lemmas.List.Elements.{All-cons, All-contains, All-contains_itself, All-head, All-nil, All-tail, All-weaker, Contains-append_left, Contains-append_right}
+use Rattle.std.proofs.lemmas.List.Elements.{All-cons, All-contains, All-head, All-nil, All-tail, All-weaker}
 use Rattle.lane_kernels.specs.declared.numbers.Mode.TheVariants.{Write}
 use Rattle.plain_values.specs.Points.{within}
 use Rattle.region_tree.specs.Needs.{AreNeeds, IsNeed, requirement_of, requirements_of}
@@ -12,20 +12,13 @@ use Rattle.region_tree.specs.Trees.{RegionTree, is_region, node_at, points_at, p
 use Rattle.region_tree.specs.declared.content.Content.{Content}
 use Rattle.region_tree.specs.declared.content.Content.TheVariants.{Partition, Region}
 use Rattle.region_tree.specs.declared.needs.Need.{Need}
-use Rattle.region_tree.specs.declared.tree.OpNumber.{OpNumber}
-use Rattle.region_tree.specs.declared.tree.RootId.{RootId}
 use Rattle.region_tree.proofs.Growth.{within_itself, within_trans}
 use Rattle.region_finder.specs.Forests.{Upward, above, and_on, climbed}
-use Rattle.region_finder.specs.Listings.{Listed, PlacedNeed, all_uncovered, covers, is_covered, listed_ops, needs_in, placed, uncovered}
-use Rattle.logical_map.specs.Maps.{LogicalMap}
-use Rattle.dependence_graph.specs.Graphs.{Waits}
-use Rattle.dependence_graph.specs.Knots.{number}
+use Rattle.region_finder.specs.Listings.{Listed, PlacedNeed, all_uncovered, covers, is_covered, listed_ops, placed, uncovered}
 use Rattle.task_code.specs.declared.job.Job.{Job}
-use Rattle.board_terms.specs.declared.operation.Operation.{Operation}
-use Rattle.board_terms.specs.States.{State}
-use Rattle.board_trees.specs.Names.{IsNaming, pointed, requirement_named}
-use Rattle.board_trees.specs.Shows.{AreListed, IsListed, IsUpward, needs_listed}
-use Rattle.board_trees.specs.Waits.{Sibling, has_ended, is_written_over, writes_over}
+use Rattle.board_trees.specs.Names.{pointed, requirement_named}
+use Rattle.board_trees.specs.Shows.{IsUpward}
+use Rattle.board_trees.specs.Waits.{Sibling, is_written_over, writes_over}
 use Rattle.changed_trees.proofs.Spared.{any_there, passing, pointed_in}
 use Rattle.changed_trees.proofs.Contained.{contains_cases, contains_first, contains_later, none_in}
 
@@ -193,90 +186,29 @@ filter_each P p (x ∷ xs) h = by_test (p x) (filter_each P p xs (All-tail P x x
     by_test true more = All-cons P x (filter p xs) (All-head P x xs h) more
     by_test false more = more
 
--- ---- a sibling more writes over what was taken out
+-- ---- a later sibling writes over what was taken out
 
 module _ (job : Job) (t : RegionTree) (needs : List Need) (are : AreNeeds t needs) (new : Sibling) (name : ℕ → ℕ)
     (required : pointed new.needs ≡ map (requirement_named name) (requirements_of t needs)) where
   abbrev uncovers : PlacedNeed → Bool
   uncovers m = not (is_covered needs m)
 
-  later_writes : (ys : List Sibling) (r : Requirement) → is_written_over ys r ≡ true → is_written_over (ys ++ new ∷ []) r ≡ true
-  later_writes ys r e =
-      let y = passing (λ (y : Sibling). list_any (writes_over r) y.needs) ys e in
-      any_there (λ (y : Sibling). list_any (writes_over r) y.needs) (ys ++ new ∷ []) y.one (Contains-append_left ys (new ∷ []) y.one y.there) y.passes
-
-  new_writes : (ms : List PlacedNeed) → All (IsUpward job t) ms → (ys : List Sibling) (r : Requirement) → TakenOut t name uncovers ms r → is_written_over (ys ++ new ∷ []) r ≡ true
-  new_writes ms up ys r d =
+  new_writes : (ms : List PlacedNeed) → All (IsUpward job t) ms → (ys : List Sibling) → Contains ys new → (r : Requirement) → TakenOut t name uncovers ms r → is_written_over ys r ≡ true
+  new_writes ms up ys later r d =
       let n = passing (covers d.one) needs (not-false (is_covered needs d.one) d.fails) in
       let q = requirement_named name (requirement_of t n.one) in
       let writes = covering_writes t name job d.one n.one (All-contains (IsUpward job t) ms d.one up d.there) (All-contains (IsNeed t) needs n.one are n.there) n.passes in
       let listed = contains_map (requirement_named name) (requirements_of t needs) (requirement_of t n.one) (contains_map (requirement_of t) needs n.one n.there) in
       let there = All-contains (Contains new.needs) (pointed new.needs) q (pointed_in new.needs) (subst (λ rs. Contains rs q) (sym required) listed) in
-      any_there (λ (y : Sibling). list_any (writes_over r) y.needs) (ys ++ new ∷ []) new (Contains-append_right ys (new ∷ []) new (contains_first new []))
+      any_there (λ (y : Sibling). list_any (writes_over r) y.needs) ys new later
       (any_there (writes_over r) new.needs q there (subst (λ z. writes_over z q ≡ true) d.is writes))
 
-  pub left_or_written : (ms : List PlacedNeed) → All (IsUpward job t) ms → (ys : List Sibling) (D : List Requirement) →
+  pub left_or_written : (ms : List PlacedNeed) → All (IsUpward job t) ms → (ys : List Sibling) → Contains ys new → (D : List Requirement) →
       All (λ (r : Requirement). Contains (all_required_of t name ms) r ⊎ (is_written_over ys r ≡ true)) D →
-      All (λ (r : Requirement). Contains (all_required_of t name (filter uncovers ms)) r ⊎ (is_written_over (ys ++ new ∷ []) r ≡ true)) D
-  left_or_written ms up ys D h = All-weaker
+      All (λ (r : Requirement). Contains (all_required_of t name (filter uncovers ms)) r ⊎ (is_written_over ys r ≡ true)) D
+  left_or_written ms up ys later D h = All-weaker
       (λ (r : Requirement). Contains (all_required_of t name ms) r ⊎ (is_written_over ys r ≡ true))
-      (λ (r : Requirement). Contains (all_required_of t name (filter uncovers ms)) r ⊎ (is_written_over (ys ++ new ∷ []) r ≡ true))
+      (λ (r : Requirement). Contains (all_required_of t name (filter uncovers ms)) r ⊎ (is_written_over ys r ≡ true))
       (λ r c. ⊎_elim
-      (λ there. ⊎_elim (λ d. inl d) (λ d. inr (new_writes ms up ys r d)) (left_or_taken t name uncovers ms r there))
-      (λ e. inr (later_writes ys r e)) c) D h
-
--- ---- all children are listed, with one more behind them
-
-module _ (job : Job) (s : State) (who : ℕ → ℕ) (roots wide : List RootId) (k n : ℕ) (Q : List Requirement) (entry : Listed) (live : LogicalMap) (rows : List Operation) (waits : Waits)
-    (back : (name : ℕ → ℕ) → IsNaming s.roots who wide name → IsNaming s.roots who roots name)
-    (required : (name : ℕ → ℕ) → IsNaming s.roots who wide name → pointed Q ≡ map (requirement_named name) (requirements_of s.tree (needs_in entry)))
-    (are : AreNeeds s.tree (needs_in entry)) (all : needs_in entry ≡ entry.issued) (upward : All (IsUpward job s.tree) entry.needs) (there : Contains waits.listing entry) (op_is : entry.op ≡ number n) (context : entry.context ≡ number k)
-    (covered : (x : Listed) → Contains s.waits.listing x → Contains waits.listing (uncovered k entry.op.0 (needs_in entry) x))
-    (still : (j : ℕ) → j < n → has_ended waits.knots j ≡ has_ended s.waits.knots j) where
-  abbrev u : State
-  u = record s { map = live; operations = rows; waits = waits }
-
-  abbrev new_one : Sibling
-  new_one = record { op = n; needs = Q }
-
-  abbrev needs : List Need
-  needs = needs_in entry
-
-  new_listed : IsListed job u who wide k n Q []
-  new_listed = record {
-    entry = entry;
-    there = there;
-    op_is = op_is;
-    context = context;
-    issued = λ name z. required name z ∙ ap (λ ns. map (requirement_named name) (requirements_of s.tree ns)) all;
-    placed = subst (AreNeeds s.tree) all are;
-    upward = upward;
-    alike = λ name other z y. sym (required name z) ∙ required other y;
-    own = λ name z. subst (All (Contains (pointed Q))) (required name z) (All-contains_itself (pointed Q));
-    others = λ name z. All-weaker (Contains (pointed Q)) (λ (r : Requirement). Contains (needs_listed job u who wide name entry) r ⊎ (is_written_over [] r ≡ true))
-        (λ r d. inl (subst (λ rs. Contains rs r) (required name z) d)) (pointed Q) (All-contains_itself (pointed Q));
-  }
-
-  one_listed : (y : Sibling) (ys : List Sibling) → y.op < n → IsListed job s who roots k y.op y.needs ys → IsListed job u who wide k y.op y.needs (ys ++ new_one ∷ [])
-  one_listed y ys before l = record {
-    entry = left_over needs l.entry;
-    there = subst (Contains waits.listing)
-        (uncovered_here k entry.op.0 needs l.entry (ap (λ (x : OpNumber). x.0) l.context) (omega (arith, before, ap (λ (x : OpNumber). x.0) op_is, ap (λ (x : OpNumber). x.0) l.op_is)))
-        (covered l.entry l.there);
-    op_is = l.op_is;
-    context = l.context;
-    issued = λ name z. l.issued name (back name z);
-    placed = l.placed;
-    upward = filter_each (IsUpward job s.tree) (λ (m : PlacedNeed). not (is_covered needs m)) l.entry.needs l.upward;
-    alike = λ name other z y. filter_alike s.tree name other (λ (m : PlacedNeed). not (is_covered needs m)) l.entry.needs (l.alike name other (back name z) (back other y));
-    own = λ name z. filter_all s.tree name (λ (m : PlacedNeed). not (is_covered needs m)) (Contains (pointed y.needs)) l.entry.needs (l.own name (back name z));
-    others = λ name z. left_or_written job s.tree needs are new_one name (required name z) l.entry.needs l.upward ys (pointed y.needs) (l.others name (back name z));
-  }
-
-  pub listed_behind : (ys : List Sibling) → All (λ (y : Sibling). y.op < n) ys → AreListed job s who roots k ys → AreListed job u who wide k (ys ++ new_one ∷ [])
-  listed_behind [] below l = (λ z. new_listed, tt)
-  listed_behind (y ∷ ys) below l =
-      let before = All-head (λ (y : Sibling). y.op < n) y ys below in (
-        λ z. one_listed y ys before (l.0 (sym (still y.op before) ∙ z)),
-        listed_behind ys (All-tail (λ (y : Sibling). y.op < n) y ys below) l.1,
-      )
+      (λ there. ⊎_elim (λ d. inl d) (λ d. inr (new_writes ms up ys later r d)) (left_or_taken t name uncovers ms r there))
+      (λ e. inr e) c) D h

@@ -1,5 +1,5 @@
 -- Items with more behind them: what they say, and that they show.
-use Rattle.std.proofs.Common.{◌≡◌, ◌+◌, ◌++◌, ◌∷◌, ◌∙◌, ℕ, suc, List, [], ap, append_assoc, append-nil, arith, length, map, refl, subst, sym}
+use Rattle.std.proofs.Common.{◌≡◌, ◌+◌, ◌++◌, ◌∷◌, ◌∙◌, ℕ, suc, List, [], ap, append_assoc, append-nil, arith, map, refl, subst, sym}
 use Rattle.region_finder.specs.Listings.{PlacedNeed, placed}
 use Rattle.region_tree.specs.Trees.{RegionTree}
 use Rattle.region_tree.specs.declared.needs.Need.{Need}
@@ -40,12 +40,6 @@ module _ (job : Job) where
   count_more no_item js = omega arith
   count_more (said t is) js = count_more is js
   count_more (child_op n is) js = let e = count_more is js in omega (arith, e)
-
-  pub count_matches : (ks : List OpNumber) (is : Items G) → Matches job ks is → child_count G is ≡ length ks
-  count_matches ks no_item h = ap length (sym h)
-  count_matches ks (said t is) h = count_matches ks is h
-  count_matches [] (child_op n is) h = absurd h
-  count_matches (k ∷ ks) (child_op n is) h = ap (λ n. suc n) (count_matches ks is h)
 
   pub siblings_more : (ks more : List OpNumber) (is js : Items G) → Matches job ks is → siblings job (ks ++ more) (◌+++◌ G is js) ≡ siblings job ks is ++ siblings job more js
   siblings_more ks more no_item js h = ap (λ ks. siblings job (ks ++ more) js) h

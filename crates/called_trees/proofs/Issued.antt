@@ -1,8 +1,8 @@
 -- One operation more is issued: what the graph tells of it and of the others.
-use Rattle.std.proofs.Common.{◌≡◌, ◌<◌, ◌≤◌, ◌+◌, ◌-◌, inl, inr, ◌++◌, ◌∷◌, ◌∙◌, ℕ, zero, suc, Bool, List, None, Some, [], ap, arith, cond, false, length, map, not, refl, subst, sym, true}
-use Rattle.std.specs.Prelude.{All, filter, set}
-use Rattle.std.proofs.lemmas.Bool.{cases_eq, le-ltb, lt-ltb}
-use Rattle.std.proofs.lemmas.List.{get_or_append_left, get_or-append-add, get_or-set_other, get_or-set_same, length-append, length-set, map-append}
+use Rattle.std.proofs.Common.{◌≡◌, ◌<◌, ◌≤◌, ◌+◌, ◌-◌, ◌++◌, ◌∷◌, ◌∙◌, ℕ, zero, suc, Bool, List, None, Some, [], ap, arith, cond, false, length, map, not, refl, subst, sym, true}
+use Rattle.std.specs.Prelude.{All, filter}
+use Rattle.std.proofs.lemmas.Bool.{le-ltb, lt-ltb}
+use Rattle.std.proofs.lemmas.List.{get_or_append_left, get_or-append-add, length-append, map-append}
 use Rattle.std.proofs.lemmas.List.Elements.{All-cons, All-head, All-nil, All-tail, filter-append}
 use Rattle.plain_values.specs.Points.{counted_from}
 use Rattle.region_finder.specs.Listings.{Listed, inserted, listed_ops}
@@ -29,25 +29,21 @@ not_parked false e = cc
 
 -- ---- knots
 
-module _ (ks : List Knot) (new kx : Knot) (k : ℕ) (there : k < length ks) where
-  -- the new one behind the others, and another one changed
+module _ (ks : List Knot) (new : Knot) where
+  -- the new one behind the others
   abbrev pub more : List Knot
-  more = set (ks ++ new ∷ []) k kx
+  more = ks ++ new ∷ []
 
   pub length_more : length more ≡ suc (length ks)
-  length_more = length-set (ks ++ new ∷ []) k kx ∙ length-append ks (new ∷ []) ∙ omega arith
+  length_more = length-append ks (new ∷ []) ∙ omega arith
 
-  pub knot_here : knot_at more k ≡ kx
-  knot_here = get_or-set_same (ks ++ new ∷ []) k kx no_knot (omega (arith, there, length-append ks (new ∷ [])))
-
-  pub knot_old : (j : ℕ) → j < length ks → ¬ (j ≡ k) → knot_at more j ≡ knot_at ks j
-  knot_old j l n = get_or-set_other (ks ++ new ∷ []) k j kx no_knot n ∙ get_or_append_left ks (new ∷ []) no_knot j l
+  pub knot_old : (j : ℕ) → j < length ks → knot_at more j ≡ knot_at ks j
+  knot_old j l = get_or_append_left ks (new ∷ []) no_knot j l
 
   pub knot_new : knot_at more (length ks) ≡ new
   knot_new =
       let last : length ks + 0 ≡ length ks = omega arith in
-      get_or-set_other (ks ++ new ∷ []) k (length ks) kx no_knot (λ e. omega (arith, e, there))
-      ∙ ap (λ j. knot_at (ks ++ new ∷ []) j) (sym last) ∙ get_or-append-add ks (new ∷ []) 0 no_knot
+      ap (λ j. knot_at more j) (sym last) ∙ get_or-append-add ks (new ∷ []) 0 no_knot
 
   stage_of : (j : ℕ) → j < suc (length ks) → stage_at more j ≡ Some (knot_at more j).stage
   stage_of j l = ap (λ b. cond b (Some (knot_at more j).stage) None) (lt-ltb j (length more) (subst (λ n. j < n) (sym length_more) l))
@@ -55,17 +51,11 @@ module _ (ks : List Knot) (new kx : Knot) (k : ℕ) (there : k < length ks) wher
   old_stage : (j : ℕ) → j < length ks → stage_at ks j ≡ Some (knot_at ks j).stage
   old_stage j l = ap (λ b. cond b (Some (knot_at ks j).stage) None) (lt-ltb j (length ks) l)
 
-  pub stage_here : stage_at more k ≡ Some kx.stage
-  stage_here = stage_of k (omega (arith, there)) ∙ ap (λ (x : Knot). Some x.stage) knot_here
-
-  pub stage_old : (j : ℕ) → j < length ks → ¬ (j ≡ k) → stage_at more j ≡ stage_at ks j
-  stage_old j l n = stage_of j (omega (arith, l)) ∙ ap (λ (x : Knot). Some x.stage) (knot_old j l n) ∙ sym (old_stage j l)
+  pub stage_old : (j : ℕ) → j < length ks → stage_at more j ≡ stage_at ks j
+  stage_old j l = stage_of j (omega (arith, l)) ∙ ap (λ (x : Knot). Some x.stage) (knot_old j l) ∙ sym (old_stage j l)
 
   pub stage_new : stage_at more (length ks) ≡ Some new.stage
   stage_new = stage_of (length ks) (omega arith) ∙ ap (λ (x : Knot). Some x.stage) knot_new
-
-  pub was_here : stage_at ks k ≡ Some (knot_at ks k).stage
-  was_here = old_stage k there
 
 -- ---- the listing
 
@@ -105,27 +95,21 @@ filter_same p q a (suc m) h =
     (λ i. cond (h a (omega arith) (omega arith) i) (a ∷ filter p (counted_from (suc a) m)) (filter p (counted_from (suc a) m)))
     ∙ ap (λ xs. cond (q a) (a ∷ xs) xs) (filter_same p q (suc a) m (λ j l k. h j (omega (arith, l)) (omega (arith, k))))
 
-module _ (ks : List Knot) (new kx : Knot) (k : ℕ) (there : k < length ks) (stays : is_done (Some kx.stage) ≡ is_done (Some (knot_at ks k).stage))
-    (begins : is_done (Some new.stage) ≡ false) where
-  pub ended_old : (j : ℕ) → j < length ks → has_ended (more ks new kx k there) j ≡ has_ended ks j
-  ended_old j l = elim (cases_eq j k) [
-    | inl e ↦ subst (λ x. has_ended (more ks new kx k there) x ≡ has_ended ks x) (sym e)
-        (ap is_done (stage_here ks new kx k there) ∙ stays ∙ sym (ap is_done (was_here ks new kx k there)))
-    | inr e ↦ ap is_done (stage_old ks new kx k there j l e)
-  ]
+module _ (ks : List Knot) (new : Knot) (begins : is_done (Some new.stage) ≡ false) where
+  pub ended_old : (j : ℕ) → j < length ks → has_ended (more ks new) j ≡ has_ended ks j
+  ended_old j l = ap is_done (stage_old ks new j l)
 
-  pub ended_new : has_ended (more ks new kx k there) (length ks) ≡ false
-  ended_new = ap is_done (stage_new ks new kx k there) ∙ begins
+  pub ended_new : has_ended (more ks new) (length ks) ≡ false
+  ended_new = ap is_done (stage_new ks new) ∙ begins
 
   -- the graph lists one more
-  pub listed_more : (e : Listed) (ls : List Listed) → e.op ≡ number (length ks) →
+  pub listed_more : (e : Listed) (ls : List Listed) → 0 < length ks → e.op ≡ number (length ks) →
       listed_ops ls ≡ map number (filter (λ j. not (has_ended ks j)) (counted_from 1 (length ks - 1))) →
-      listed_ops (inserted e ls) ≡ map number (filter (λ j. not (has_ended (more ks new kx k there) j)) (counted_from 1 (suc (length ks) - 1)))
-  listed_more e ls op_is listed =
+      listed_ops (inserted e ls) ≡ map number (filter (λ j. not (has_ended (more ks new) j)) (counted_from 1 (suc (length ks) - 1)))
+  listed_more e ls some op_is listed =
       let p = λ (j : ℕ). not (has_ended ks j) in
-      let q = λ (j : ℕ). not (has_ended (more ks new kx k there) j) in
+      let q = λ (j : ℕ). not (has_ended (more ks new) j) in
       let n = length ks in
-      let some : 0 < n = omega (arith, there) in
       let below = listed_below p n ls some listed in
       let before : 1 + (n - 1) ≡ n = omega (arith, some) in
       let size : suc n - 1 ≡ suc (n - 1) = omega (arith, some) in

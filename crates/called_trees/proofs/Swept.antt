@@ -1,10 +1,10 @@
--- A child that is issued is dropped at once where a sibling that it would wait for has failed.
-use Rattle.std.proofs.Common.{◌≡◌, ◌++◌, ◌∷◌, ◌∙◌, ◌&&◌, ℕ, suc, Bool, List, [], ap, append-nil, append_assoc, cond, false, refl, sym, true}
+-- A child that is issued is dropped at once where a sibling that it would wait for has failed; so is it when all is swept.
+use Rattle.std.proofs.Common.{◌≡◌, ◌++◌, ◌∷◌, ◌∙◌, ℕ, suc, Bool, List, [], ap, append-nil, append_assoc, cond, false, refl, subst, sym, true}
 use Rattle.region_tree.specs.Requirements.{Requirement}
 use Rattle.region_tree.specs.declared.tree.OpNumber.{OpNumber}
 use Rattle.region_tree.specs.declared.tree.RootId.{RootId}
 use Rattle.task_code.specs.declared.job.Job.{Job}
-use Rattle.board_rules.specs.Boards.{◌+++◌, Items, Operation as Node, child_op, no_item, op, said}
+use Rattle.board_rules.specs.Boards.{◌+++◌, Items, child_op, no_item, said}
 use Rattle.board_rules.specs.Boards as tree
 use Rattle.board_rules.specs.Ground.{Ground}
 use Rattle.board_rules.specs.Running.{Machine}
@@ -17,10 +17,7 @@ use Rattle.board_trees.specs.Told.{AreOrdered, some_bad}
 use Rattle.board_trees.specs.Waits.{Sibling}
 use Rattle.board_trees.proofs.Ordered.{node_ordered}
 use Rattle.board_trees.proofs.Settled.{node_told, swept_child, unmet, worse, worse_tells}
-
--- its children are swept
-abbrev pub swept : (job : Job) → ℕ → Node (regent_ground (spaces_of job.code)) → Node (regent_ground (spaces_of job.code))
-swept job makings (op D N i f ps st is) = op D N i f ps st (tree.sweep (regent_ground (spaces_of job.code)) (machine_of job makings) [] is)
+use Rattle.called_trees.proofs.Calling.{NewCall, needs_of, node_of}
 
 module _ (job : Job) (s : State) (who : ℕ → ℕ) (ways : List (List ℕ)) (makings : ℕ) where
   abbrev G : Ground
@@ -29,38 +26,38 @@ module _ (job : Job) (s : State) (who : ℕ → ℕ) (ways : List (List ℕ)) (m
   abbrev M : Machine G
   M = machine_of job makings
 
-  -- a child as it is behind its siblings
-  abbrev pub dropped_if : Bool → Node G → Node G
-  dropped_if bad x = cond (tree.is_waiting G (tree.stage_of G x) && bad) (tree.as_dropped G M x) x
-
   abbrev Tells : List (List Requirement) → List Sibling → Type 0
   Tells bad earlier = (Q : List Requirement) → tree.meets_any G M bad Q ≡ some_bad s.waits.knots Q earlier
 
-  last_swept : (bad : List (List Requirement)) (earlier : List Sibling) → Tells bad earlier → (x : Node G) →
-      tree.sweep G M bad (child_op x no_item) ≡ child_op (dropped_if (some_bad s.waits.knots (tree.needs_of G x) earlier) x) no_item
-  last_swept bad earlier tells x =
-      ap (λ b. cond (tree.is_waiting G (tree.stage_of G x) && b) (child_op (tree.as_dropped G M x) no_item) (child_op x no_item)) (tells (tree.needs_of G x))
-      ∙ by_test (tree.is_waiting G (tree.stage_of G x) && some_bad s.waits.knots (tree.needs_of G x) earlier)
-    where
-      by_test : (b : Bool) → cond b (child_op (tree.as_dropped G M x) no_item) (child_op x no_item) ≡ child_op (cond b (tree.as_dropped G M x) x) no_item
-      by_test true = refl
-      by_test false = refl
-
-  -- the children that were there stay, and one more comes behind them
-  pub more_swept : (bad : List (List Requirement)) (way : List ℕ) (j c : ℕ) (earlier : List Sibling) (roots : List RootId) (ks : List OpNumber) (is : Items G) →
-      ShowsChildren job s who ways way j c earlier roots ks is → AreOrdered s.waits.knots earlier → Tells bad earlier → (t : List ℕ) (x : Node G) →
-      tree.sweep G M bad (◌+++◌ G is (said t (child_op x no_item)))
-      ≡ ◌+++◌ G is (said t (child_op (dropped_if (some_bad s.waits.knots (tree.needs_of G x) (earlier ++ siblings job ks is)) x) no_item))
-  more_swept bad way j c earlier roots ks no_item h o tells t x =
-      ap (λ y. said t y) (last_swept bad earlier tells x)
-      ∙ ap (λ es. said t (child_op (dropped_if (some_bad s.waits.knots (tree.needs_of G x) es) x) no_item)) (sym (append-nil earlier))
-  more_swept bad way j c earlier roots ks (said u is) h o tells t x = ap (λ y. said u y) (more_swept bad way j c earlier roots ks is h o tells t x)
-  more_swept bad way j c earlier roots [] (child_op n is) h o tells t x = absurd h
-  more_swept bad way j c earlier roots (k ∷ ks) (child_op n is) h o tells t x =
+  -- what shows stays when it is swept, and what comes behind it is swept by those that failed
+  swept_behind : (bad : List (List Requirement)) (way : List ℕ) (j c : ℕ) (earlier : List Sibling) (roots : List RootId) (ks : List OpNumber) (is : Items G) →
+      ShowsChildren job s who ways way j c earlier roots ks is → AreOrdered s.waits.knots earlier → Tells bad earlier → (xs ys : Items G) →
+      ((worse : List (List Requirement)) → Tells worse (earlier ++ siblings job ks is) → tree.sweep G M worse xs ≡ tree.sweep G M worse ys) →
+      tree.sweep G M bad (◌+++◌ G is xs) ≡ tree.sweep G M bad (◌+++◌ G is ys)
+  swept_behind bad way j c earlier roots ks no_item h o tells xs ys same = same bad (subst (Tells bad) (sym (append-nil earlier)) tells)
+  swept_behind bad way j c earlier roots ks (said u is) h o tells xs ys same = ap (λ y. said u y) (swept_behind bad way j c earlier roots ks is h o tells xs ys same)
+  swept_behind bad way j c earlier roots [] (child_op n is) h o tells xs ys same = absurd h
+  swept_behind bad way j c earlier roots (k ∷ ks) (child_op n is) h o tells xs ys same =
       let one : Sibling = record { op = k.0; needs = needs_issued job n } in
-      swept_child job s who ways makings bad n (◌+++◌ G is (said t (child_op x no_item))) _
-      (unmet job s who ways makings bad (way ++ c ∷ []) k.0 earlier roots n h.1 o tells)
-      (more_swept (worse job s who ways makings n bad) way j (suc c) (earlier ++ one ∷ []) roots ks is h.2
+      let stays = unmet job s who ways makings bad (way ++ c ∷ []) k.0 earlier roots n h.1 o tells in
+      swept_child job s who ways makings bad n (◌+++◌ G is xs) _ stays refl
+      ∙ ap (λ y. child_op n y) (swept_behind (worse job s who ways makings n bad) way j (suc c) (earlier ++ one ∷ []) roots ks is h.2
       (node_ordered job s who ways (way ++ c ∷ []) k.0 earlier roots n h.1 o)
-      (λ Q. worse_tells job s who ways makings bad earlier k.0 n (node_told job s who ways (way ++ c ∷ []) k.0 earlier roots n h.1) Q (tells Q)) t x
-      ∙ ap (λ es. ◌+++◌ G is (said t (child_op (dropped_if (some_bad s.waits.knots (tree.needs_of G x) es) x) no_item))) (append_assoc earlier (one ∷ []) (siblings job ks is)))
+      (λ Q. worse_tells job s who ways makings bad earlier k.0 n (node_told job s who ways (way ++ c ∷ []) k.0 earlier roots n h.1) Q (tells Q)) xs ys
+      (λ worse t. same worse (subst (Tells worse) (append_assoc earlier (one ∷ []) (siblings job ks is)) t)))
+      ∙ sym (swept_child job s who ways makings bad n (◌+++◌ G is ys) _ stays refl)
+
+  -- one that waits is dropped, and then stays so
+  one_swept : (name : ℕ → ℕ) (depth : ℕ) (c : NewCall) (bad : List (List Requirement)) (q : Bool) → tree.meets_any G M bad (needs_of job name c) ≡ q → (rest : Items G) →
+      tree.sweep G M bad (child_op (node_of job name depth false c) rest) ≡ tree.sweep G M bad (child_op (node_of job name depth q c) rest)
+  one_swept name depth c bad true e rest = ap (λ b. cond b
+      (child_op (tree.as_dropped G M (node_of job name depth false c)) (tree.sweep G M (needs_of job name c ∷ bad) rest))
+      (child_op (node_of job name depth false c) (tree.sweep G M bad rest))) e
+  one_swept name depth c bad false e rest = refl
+
+  pub child_swept : (name : ℕ → ℕ) (depth : ℕ) (c : NewCall) (way : List ℕ) (j : ℕ) (roots : List RootId) (ks : List OpNumber) (is : Items G) →
+      ShowsChildren job s who ways way j 0 [] roots ks is → (q : Bool) → q ≡ some_bad s.waits.knots (needs_of job name c) (siblings job ks is) → (rest : Items G) →
+      tree.sweep G M [] (◌+++◌ G is (child_op (node_of job name depth false c) rest)) ≡ tree.sweep G M [] (◌+++◌ G is (child_op (node_of job name depth q c) rest))
+  child_swept name depth c way j roots ks is h q e rest =
+      swept_behind [] way j 0 [] roots ks is h tt (λ Q. refl) (child_op (node_of job name depth false c) rest) (child_op (node_of job name depth q c) rest)
+      (λ bad t. one_swept name depth c bad q (t (needs_of job name c) ∙ sym e) rest)

@@ -1,14 +1,14 @@
--- What a give that yields a call makes of the table.
-use Rattle.std.proofs.Common.{◌≡◌, ◌<◌, ◌++◌, ◌∷◌, ◌∙◌, ◌==◌, ◌&&◌, ℕ, List, None, Option, Some, [], ap, append-nil, length, refl, sym}
-use Rattle.std.specs.Prelude.{set, slice_get}
-use Rattle.std.proofs.lemmas.List.{get_or-set_same, length-set, set-get_or}
+-- What a give that yields calls makes of the table: the calls are issued one after the other, and then what they cover is
+-- listed no more, and the caller goes on or is broken.
+use Rattle.std.proofs.Common.{◌≡◌, ◌<◌, ◌++◌, ◌∷◌, ◌∙◌, ◌==◌, ◌&&◌, ℕ, suc, List, None, Option, Some, [], ap, append-nil, append_assoc, arith, length, map, refl, sym}
+use Rattle.std.specs.Prelude.{get_or, set, slice_get}
+use Rattle.std.proofs.lemmas.List.{get_or-set_same, length-append, length-set, set-append_left, set-get_or}
+use Rattle.plain_values.specs.Points.{counted_from}
 use Rattle.region_tree.specs.declared.tree.OpNumber.{OpNumber}
-use Rattle.region_finder.specs.Listings.{Listed, all_uncovered, earlier, inserted, listed}
-use Rattle.dependence_graph.specs.Entries.{Knot}
-use Rattle.dependence_graph.specs.Graphs.{knot_on}
-use Rattle.dependence_graph.specs.Knots.{knot_at, no_knot, number}
-use Rattle.dependence_graph.specs.declared.stage.Stage.TheVariants as knot
+use Rattle.dependence_graph.specs.Graphs.{covered_each, issued_each}
+use Rattle.dependence_graph.specs.Knots.{number}
 use Rattle.task_code.specs.declared.code.NeedCode.{NeedCode}
+use Rattle.task_code.specs.declared.code.TaskCode.{TaskCode}
 use Rattle.task_code.specs.declared.job.Job.{Job}
 use Rattle.machine_terms.specs.declared.frame.Before.{Before}
 use Rattle.machine_terms.specs.declared.frame.Frame.{Frame}
@@ -19,24 +19,16 @@ use Rattle.machine_terms.specs.declared.value.RegionValue.{RegionValue}
 use Rattle.machine_terms.specs.declared.value.Value.{Value}
 use Rattle.machine_terms.specs.Pointers.{region_in as region_of}
 use Rattle.machine_terms.specs.Segments.{segment}
-use Rattle.board_rules.specs.NumberedBoards.{Board}
-use Rattle.regent_boards.specs.RegentMachine.{regent_ground}
-use Rattle.code_boards.specs.Views.{spaces_of}
-use Rattle.board_terms.specs.declared.operation.Activity.TheVariants as activity
-use Rattle.board_terms.specs.declared.operation.Ending.TheVariants.{Broken}
 use Rattle.board_terms.specs.declared.operation.Operation.{Operation}
-use Rattle.board_terms.specs.declared.operation.Wait.TheVariants as wait
-use Rattle.board_terms.specs.Calls.{are_declared, called, called_in, first_opens, has_field, opens}
+use Rattle.board_terms.specs.Calls.{are_declared, called, called_in, frames_before, has_field, needs_of, opens}
 use Rattle.board_terms.specs.Gives.{behind_segment, parts_given, with_parts, yielded}
 use Rattle.board_terms.specs.States.{State, called_by, no_operation, operation_at, with_operation}
 use Rattle.board_facts.proofs.Lists.{set_twice}
-use Rattle.board_trees.specs.Shows.{ShowsBoard}
-use Rattle.changed_trees.specs.Changes.{IsAt}
 use Rattle.changed_trees.specs.Given.{yielded_by}
-use Rattle.changed_trees.proofs.One.{one_changed}
-use Rattle.called_trees.proofs.Changes.{called_to}
-use Rattle.called_trees.proofs.Grown.{need_listed}
+use Rattle.called_trees.proofs.Covering.{all_covered}
+use Rattle.called_trees.proofs.Issuing.{all_issued, children_from}
 use Rattle.called_trees.proofs.Opens.{all_declared, declared_on}
+use Rattle.called_trees.proofs.Calling.{NewCall, caller, frame_of, with_child}
 
 -- the declared needs are there
 pub declared_is : (s : State) (ds : List NeedCode) (vs : List Value) → are_declared s ds vs ≡ all_declared s.tree s.map ds vs
@@ -47,7 +39,15 @@ declared_is s (d ∷ ds) vs = λ i. by_region (region_of (slice_get vs d.param))
     by_region None = refl
     by_region (Some r) = refl
 
-module _ (job : Job) (s : State) (k : ℕ) (within : k < length s.operations) (before : Before) (c : CallOut) (calls : (segment before).ends ≡ yield.Calls (c ∷ [])) where
+-- ---- the calls that are issued
+
+-- a call whose task may begin, and those behind it
+abbrev pub add_call : Option Frame → Option TaskCode → CallOut → List NewCall → List NewCall
+add_call None t c rest = []
+add_call (Some f) None c rest = []
+add_call (Some f) (Some t) c rest = record { out = c; task = t } ∷ rest
+
+module _ (job : Job) (s : State) (k : ℕ) (within : k < length s.operations) (before : Before) where
   abbrev pub a : After
   a = segment before
 
@@ -71,82 +71,79 @@ module _ (job : Job) (s : State) (k : ℕ) (within : k < length s.operations) (b
   pub given_row : operation_at given k ≡ left
   given_row = get_or-set_same s.operations k left no_operation within
 
-  abbrev pub opened : Option Frame
-  opened = opens job.code job.turns given left c (slice_get job.code.tasks c.task)
+  abbrev pub opened : CallOut → Option Frame
+  opened c = opens job.code job.turns given left c (slice_get job.code.tasks c.task)
 
-  -- by whether the call may be issued
-  abbrev by_opening : Option Frame → State
-  by_opening o = called_in given k (first_opens o []) (length (first_opens o []) == 1)
+  abbrev pub new_calls : List CallOut → List NewCall
+  new_calls [] = []
+  new_calls (c ∷ cs) = add_call (opened c) (slice_get job.code.tasks c.task) c (new_calls cs)
 
-  yielded_is : yielded_by job s k before ≡ by_opening opened
-  yielded_is =
-      ap (yielded job.code job.turns (with_operation s k (behind_segment o a)) k) calls
-      ∙ ap (λ t. called job.code job.turns t k (c ∷ [])) given_is
-      ∙ ap (λ r. called_in given k (first_opens (opens job.code job.turns given r c (slice_get job.code.tasks c.task)) [])
-      (length (first_opens (opens job.code job.turns given r c (slice_get job.code.tasks c.task)) []) == 1)) given_row
+  -- what the table makes of the yield
+  module _ (cs : List CallOut) (calls : (segment before).ends ≡ yield.Calls cs) where
+    abbrev pub frames : List Frame
+    frames = frames_before job.code job.turns given left cs
 
-  -- ---- the call may not be issued
+    pub called_is : yielded_by job s k before ≡ called_in given k frames (length frames == length cs)
+    called_is =
+        ap (yielded job.code job.turns (with_operation s k (behind_segment o a)) k) calls
+        ∙ ap (λ t. called job.code job.turns t k cs) given_is
+        ∙ ap (λ r. called_in given k (frames_before job.code job.turns given r cs) (length (frames_before job.code job.turns given r cs) == length cs)) given_row
 
-  abbrev pub broken : Operation
-  broken = record left { children = o.children ++ []; wait = wait.Nothing; activity = activity.Closing Broken }
+-- ---- all at once
 
-  pub refused_is : opened ≡ None → yielded_by job s k before ≡ one_changed s s.tree s.roots (with_parts a.parts s.map) k broken (knot_at s.waits.knots k)
-  refused_is e =
-      yielded_is ∙ ap by_opening e
-      ∙ (λ i. record given {
-        operations = set given.operations k (record (given_row i) { children = (given_row i).children ++ []; wait = wait.Nothing; activity = activity.Closing Broken }) ++ [];
-      })
-      ∙ (λ i. record given { operations = append-nil (set given.operations k broken) i })
-      ∙ (λ i. record given { operations = set_twice s.operations k left broken i })
-      ∙ ap (λ ks. record s {
-        operations = set s.operations k broken;
-        map = with_parts a.parts s.map;
-        waits = record { knots = ks; listing = s.waits.listing };
-      }) (sym (set-get_or s.waits.knots k no_knot))
+module _ (job : Job) (k : ℕ) (v : List ℕ) (name : ℕ → ℕ) (depth : ℕ) where
+  abbrev pub begin : List NewCall → List Frame
+  begin calls = map (frame_of job depth) calls
 
-  -- ---- the call is issued
+  abbrev all_children : State → List NewCall → List OpNumber
+  all_children s calls = (operation_at s k).children ++ map number (counted_from (length s.operations) (length calls))
 
-  module _ (b : Board (regent_ground (spaces_of job.code))) (h : ShowsBoard job s b) (v : List ℕ) (at : IsAt job b.ways k v) (begun : (knot_at s.waits.knots k).stage ≡ knot.Begun) (f : Frame) where
-    abbrev pub caller : Operation
-    caller = record left { children = o.children ++ number (length s.operations) ∷ []; wait = wait.Nothing; activity = activity.Idle }
+  abbrev pub issued_rows : State → List NewCall → List Operation
+  issued_rows s calls = set s.operations k (record (operation_at s k) { children = all_children s calls }) ++ map (called_by (number k)) (begin calls)
 
-    abbrev pub child : Operation
-    child = called_by (number k) f
+  module _ (c : NewCall) (cs : List NewCall) (s : State) (l : k < length s.operations) where
+    abbrev u : State
+    u = with_child s k (frame_of job depth c)
 
-    abbrev pub child_on : List OpNumber
-    child_on = earlier s.tree s.waits.listing k f.needs.items
+    abbrev child : Operation
+    child = called_by (number k) (frame_of job depth c)
 
-    abbrev pub child_knot : Knot
-    child_knot = knot_on s.waits.knots (number k) child_on knot.Waiting knot.Dropped
+    abbrev last : Operation
+    last = record (operation_at s k) { children = all_children s (c ∷ cs) }
 
-    abbrev pub caller_knot : Knot
-    caller_knot = knot_on (s.waits.knots ++ child_knot ∷ []) (knot_at (s.waits.knots ++ child_knot ∷ []) k).parent [] knot.Parked knot.Stopped
+    long : length u.operations ≡ suc (length s.operations)
+    long = length-append (set s.operations k (caller s k)) (child ∷ []) ∙ (let e = length-set s.operations k (caller s k) in omega (arith, e))
 
-    abbrev pub entry : Listed
-    entry = listed s.tree (number k) (number (length s.waits.knots)) f.needs.items
+    still : k < length (set s.operations k (caller s k))
+    still = let e = length-set s.operations k (caller s k) in omega (arith, e, l)
 
-    abbrev pub behind : State
-    behind = called_to job s b h k v at begun caller child child_knot caller_knot entry (with_parts a.parts s.map)
+    here : operation_at u k ≡ caller s k
+    here = ap (λ xs. get_or xs k no_operation) (sym (set-append_left s.operations (child ∷ []) k (caller s k) l))
+        ∙ get_or-set_same (s.operations ++ child ∷ []) k (caller s k) no_operation (let e = length-append s.operations (child ∷ []) in omega (arith, e, l))
 
-    pub called_is : opened ≡ Some f → yielded_by job s k before ≡ behind
-    called_is e =
-        yielded_is ∙ ap by_opening e
-        ∙ (λ i. record behind {
-          operations = set given.operations k (record (operation_at given k) {
-            children = (operation_at given k).children ++ number (length given.operations) ∷ [];
-            wait = wait.Nothing;
-            activity = activity.Idle;
-          }) ++ child ∷ [];
-          waits = record {
-            knots = behind.waits.knots;
-            listing = all_uncovered k (length s.waits.knots) (sym (need_listed s.tree f.needs.items) i) (inserted entry s.waits.listing);
-          };
-        })
-        ∙ (λ i. record behind {
-          operations = set given.operations k (record (given_row i) {
-            children = (given_row i).children ++ number (length-set s.operations k left i) ∷ [];
-            wait = wait.Nothing;
-            activity = activity.Idle;
-          }) ++ child ∷ [];
-        })
-        ∙ ap (λ rows. record behind { operations = rows ++ child ∷ [] }) (set_twice s.operations k left caller)
+    children : all_children u cs ≡ all_children s (c ∷ cs)
+    children = (λ i. (here i).children ++ map number (counted_from (long i) (length cs)))
+        ∙ append_assoc (operation_at s k).children (number (length s.operations) ∷ []) (map number (counted_from (suc (length s.operations)) (length cs)))
+
+    rows : issued_rows u cs ≡ issued_rows s (c ∷ cs)
+    rows =
+        (λ i. set u.operations k (record (here i) { children = children i }) ++ map (called_by (number k)) (begin cs))
+        ∙ ap (λ xs. xs ++ map (called_by (number k)) (begin cs)) (set-append_left (set s.operations k (caller s k)) (child ∷ []) k last still
+        ∙ ap (λ xs. xs ++ child ∷ []) (set_twice s.operations k (caller s k) last))
+        ∙ append_assoc (set s.operations k last) (child ∷ []) (map (called_by (number k)) (begin cs))
+
+  none_issued : (s : State) → s.operations ≡ issued_rows s []
+  none_issued s = sym (append-nil (set s.operations k (record (operation_at s k) { children = (operation_at s k).children ++ [] }))
+      ∙ ap (λ ks. set s.operations k (record (operation_at s k) { children = ks })) (append-nil (operation_at s k).children) ∙ set-get_or s.operations k no_operation)
+
+  -- the rows and the graph behind calls that are issued one after the other
+  pub issued_at_once : (calls : List NewCall) (s : State) → k < length s.operations →
+      all_issued job k v name depth s calls ≡ record s { operations = issued_rows s calls; waits = issued_each s.tree s.waits (number k) (needs_of (begin calls)) }
+  issued_at_once [] s l = λ i. record s { operations = none_issued s i }
+  issued_at_once (c ∷ cs) s l =
+      issued_at_once cs (u c cs s l) (omega (arith, l, long c cs s l))
+      ∙ (λ i. record s { operations = rows c cs s l i; waits = issued_each s.tree s.waits (number k) (needs_of (begin (c ∷ cs))) })
+
+  pub covered_at_once : (calls : List NewCall) (n : ℕ) (s : State) → all_covered job k v name depth s (children_from n calls) ≡ record s { waits = covered_each k (needs_of (begin calls)) s.waits n }
+  covered_at_once [] n s = refl
+  covered_at_once (c ∷ cs) n s = covered_at_once cs (suc n) _

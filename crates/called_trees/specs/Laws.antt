@@ -8,7 +8,7 @@ use Rattle.changed_trees.specs.Given.{YieldsOpen}
 abbrev pub IsCalls : Yield → Type 0
 IsCalls y = (cs : List CallOut) × (y ≡ yield.Calls cs)
 
--- The call is issued on the table where it may be in the tree: its child comes behind the others, and begins or is dropped.
--- Else the caller is broken on both.
+-- The calls up to the first that can't be made are issued on the table as in the tree: their children come behind the others,
+-- and begin or are dropped. Where there is such a one, the caller is broken on both.
 abbrev pub CallsOpen : Type 0
 CallsOpen = YieldsOpen IsCalls

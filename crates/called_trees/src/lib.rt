@@ -5,7 +5,8 @@
 
 ghost use Rattle.called_trees.specs.Laws.{CallsOpen};
 
-/// Behind a segment that calls a task the child is issued on both, or the caller is broken on both.
+/// Behind a segment that calls tasks their children are issued on both, up to a call that can't be made, which breaks the
+/// caller on both.
 pub fn calls_open()
     ensures { CallsOpen }
 {}

@@ -74,16 +74,16 @@ module _ (job : Job) (s : State) (who : ℕ → ℕ) (roots : List RootId) (kn :
 -- ---- one that has what is asked
 
 module _ (job : Job) (s : State) (who : ℕ → ℕ) (ways : List (List ℕ)) (B : Asked job) where
-  record FoundAt : Type 0 where
-    way : List ℕ
-    number : ℕ
-    earlier : List Sibling
-    above : List RootId
-    node : Node (regent_ground (spaces_of job.code))
-    is : B way number earlier above node
+  pub record FoundAt : Type 0 where
+    pub way : List ℕ
+    pub number : ℕ
+    pub earlier : List Sibling
+    pub above : List RootId
+    pub node : Node (regent_ground (spaces_of job.code))
+    pub is : B way number earlier above node
 
   mutual
-    found_at : (way w : List ℕ) (k : ℕ) (earlier : List Sibling) (above : List RootId) (n : Node (regent_ground (spaces_of job.code))) → HasAt job s who ways B way w k earlier above n → FoundAt
+    pub found_at : (way w : List ℕ) (k : ℕ) (earlier : List Sibling) (above : List RootId) (n : Node (regent_ground (spaces_of job.code))) → HasAt job s who ways B way w k earlier above n → FoundAt
     found_at [] w k earlier above n h = record { way = w; number = k; earlier = earlier; above = above; node = n; is = h }
     found_at (c ∷ way) w k earlier above (op D N i f ps st is) h = found_among c way w k 0 [] (above ++ (operation_at s k).frame.own) (operation_at s k).children is h.1
 
