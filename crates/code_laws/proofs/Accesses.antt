@@ -103,7 +103,7 @@ then_kept x R shape2 Good2 shape Good1 i s (fails f t) k kept c more = c
 abbrev pub HasRegion : Instance → ℕ → Region → Type 0
 HasRegion i sl q = slice_get i.frame.slots sl ≡ Some (machine.Region (region_with (number_at i.contents q.root) q.points))
 
-module _ (x : Setting) (params slots : ℕ) (fit : SlotsFit x slots) (aside : Aside) where
+module _ (x : Setting) (params slots : ℕ) (fit : SlotsFit x slots) {deep : ℕ} (aside : Aside deep) where
   -- The field of a point at which a kept number aims.
   pub field_reads : (h : Here) (t : StaticType) (f : Name) (place n : ℕ) (z : ℤ) (rs : List ℕ) (q : Region) (out : StaticType)
       (s : State) (pc : ℕ) (st : List MachineValue) (i : Instance) →

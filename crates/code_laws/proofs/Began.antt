@@ -42,7 +42,7 @@ part_had x (Some y) own r q p begins sub (inr g) = inr (record {
   is = λ low. let behind = begins.0 in absurd (omega (arith, low, behind));
 })
 
-module _ (x : Setting) (params slots : ℕ) (fit : SlotsFit x slots) (aside : Aside) where
+module _ (x : Setting) (params slots : ℕ) (fit : SlotsFit x slots) {deep : ℕ} (aside : Aside deep) where
   -- what a parameter's name stands for is its argument
   given_as : (y : Taking) (i : ℕ) (q : Region) → i < y.params → IsHadBy (Some y) x (term.Name i) q → given_region x.args i ≡ q
   given_as y i q low (inl own) = absurd (omega (arith, low, own.1))

@@ -82,13 +82,13 @@ like_under takes bs own _ _ (like_region j k sp args brgs r) whole names v =
 
 module _ (x : Setting) (params slots : ℕ) (fit : SlotsFit x slots) (counts : CountsDown) where
   -- a new region is one that a name may have
-  region_comes : (aside : Aside) (h : Here) (t : StaticType) (to : ℕ) (i : Instance) (r : Result Value) → IsRegion t →
+  region_comes : (aside : Aside 0) (h : Here) (t : StaticType) (to : ℕ) (i : Instance) (r : Result Value) → IsRegion t →
       Comes x i (valued to []) (GoodInside x params slots fit counts aside h t) r → Comes x i (valued to []) (GoodCut x params slots fit aside h t) r
   region_comes aside h t to i (gives v s) region c = (c.0, c.1, (c.2.0, c.2.1, region_pointed h.scope.names s.names t v region c.2.0, c.2.2))
   region_comes aside h t to i (fails f s) region c = c
 
   -- what it begins with is there, and the name is bound to it
-  pub begins_as : (aside : Aside) (h : Here) (n : Name) (t : Option TypeTerm) (start : Initializer) (s : State) (pc to : ℕ) (i : Instance) →
+  pub begins_as : (aside : Aside 0) (h : Here) (n : Name) (t : Option TypeTerm) (start : Initializer) (s : State) (pc to : ℕ) (i : Instance) →
       params ≤ length h.scope.names → IsLike (var_type h.tree h.scope t (Some start)) (initializer_type h.tree h.scope h.scope.next start) →
       (IsRegion (initializer_type h.tree h.scope h.scope.next start) →
       (term_in (initializer_type h.tree h.scope h.scope.next start) ≡ term.Name h.scope.next) × BeginsWhole x.forms.takes h.scope.next) →
@@ -107,7 +107,7 @@ module _ (x : Setting) (params slots : ℕ) (fit : SlotsFit x slots) (counts : C
       (like_under x.forms.takes h.scope.names h.scope.next u made like whole s1.names v)
       (no_part_goes _ j.contents (length s1.store) u v (like_no_part u made like)) k.3 f)
 
-  pub begun_runs : (aside : Aside) (h : Here) (n : Name) (t : Option TypeTerm) (start : Initializer) (s : State) (pc : ℕ) (i : Instance) →
+  pub begun_runs : (aside : Aside 0) (h : Here) (n : Name) (t : Option TypeTerm) (start : Initializer) (s : State) (pc : ℕ) (i : Instance) →
       params ≤ length h.scope.names → IsLike (var_type h.tree h.scope t (Some start)) (initializer_type h.tree h.scope h.scope.next start) →
       IsBegunBy x.forms (where_of params h) start → Agrees x params slots aside h s i →
       Stands x.body pc (form_code (where_of params h) (var_form n t (Some start))) →

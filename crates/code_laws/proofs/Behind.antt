@@ -41,7 +41,7 @@ use Rattle.code_laws.proofs.Writes.{GoesOn, field_value}
 use Rattle.code_laws.proofs.Besides.{beside_named}
 use Rattle.memory_laws.specs.Places.{number_at}
 
-module _ (x : Setting) (params slots : ℕ) (fit : SlotsFit x slots) (aside : Aside) where
+module _ (x : Setting) (params slots : ℕ) (fit : SlotsFit x slots) {deep : ℕ} (aside : Aside deep) where
   -- a name's value is pushed
   pub loads : (h : Here) (p : ℕ) (v : Value) (s : State) (pc : ℕ) (st : List MachineValue) (i : Instance) →
       get_or s.names p nothing ≡ v → p < length s.names → Agrees x params slots aside h s i →
@@ -105,6 +105,7 @@ module _ (x : Setting) (params slots : ℕ) (fit : SlotsFit x slots) (aside : As
       (beside_named (λ p. get_or i.frame.slots (beside (where_of params h) p) blank) i.contents params (length s.store) h.scope.names s.names n g.besides b.named) refl (omega (arith, m.below, g.count))
       b.field may b.keeps g stands
 
+module _ (x : Setting) (params slots : ℕ) (fit : SlotsFit x slots) (aside : Aside 0) where
   -- ---- writes and reductions
 
   through_writes : (h : Here) (t : StaticType) (p : ℕ) (u : Value) (f : Name) (out : StaticType) (v : Value) (s : State) (pc : ℕ)
@@ -124,9 +125,9 @@ module _ (x : Setting) (params slots : ℕ) (fit : SlotsFit x slots) (aside : As
       (subst (λ y. Comes x (placed pc (y ∷ []) i) shape (GoesOn x params slots fit aside h) r)
       (sym (field_value i.contents (field_term h.tree sp (field_place h.tree sp f)) out v keeps ov))
       (comes_before x shape (GoesOn x params slots fit aside h) _ _ r
-      (loads h p (a_pointer tg qs) s pc (machine.Number (kept_number v) ∷ []) i is low g at)
+      (loads x params slots fit aside h p (a_pointer tg qs) s pc (machine.Number (kept_number v) ∷ []) i is low g at)
       (pointer_writes x params slots fit aside h k sp (own_slot (where_of params h) t p) args rs f tg qs out v s (suc pc) [] i names certain pointed
-      (own_there h p (pointer_type k sp args rs) (a_pointer tg qs) s i part) o
+      (own_there x params slots fit aside h p (pointer_type k sp args rs) (a_pointer tg qs) s i part) o
       field may keeps ov g put)))
 
   -- `p.f = v`, with the value on the stack
@@ -159,9 +160,9 @@ module _ (x : Setting) (params slots : ℕ) (fit : SlotsFit x slots) (aside : As
       let shape : Going → Instance → Instance = λ c j. placed (suc (suc pc)) [] j in
       does_come x params slots fit aside (suc (suc pc)) h _ r
       (comes_before x shape (GoesOn x params slots fit aside h) _ _ r
-      (loads h p (a_pointer tg qs) s pc (machine.Number y ∷ []) i is low g at)
+      (loads x params slots fit aside h p (a_pointer tg qs) s pc (machine.Number y ∷ []) i is low g at)
       (pointer_folds x params slots fit aside d h k sp (own_slot (where_of params h) t p) args rs f tg qs wd we y s (suc pc) [] i names certain pointed
-      (own_there h p (pointer_type k sp args rs) (a_pointer tg qs) s i part) o
+      (own_there x params slots fit aside h p (pointer_type k sp args rs) (a_pointer tg qs) s i part) o
       field may keeps g put))
 
   -- `p.f o= v`

@@ -42,7 +42,7 @@ passes_no_cut _ _ _ (passes_pointer _ k sp args brgs rs qs n e) c = elim c [ ]
 pub regions_no_cut : (t p : StaticType) → AreRegions t p → IsPartition p → ⊥
 regions_no_cut _ _ (two_regions k l sp args brgs r u) c = elim c [ ]
 
-module _ (x : Setting) (params slots : ℕ) (fit : SlotsFit x slots) (aside : Aside) where
+module _ (x : Setting) (params slots : ℕ) (fit : SlotsFit x slots) {deep : ℕ} (aside : Aside deep) where
   abbrev AreGiven : Here → List StaticType → Expressions → List Value → List Value → Type 0
   AreGiven h ps es vs names = AreGivenBy x params slots fit aside h ps es vs names
 

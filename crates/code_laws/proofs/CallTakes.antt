@@ -59,7 +59,7 @@ use Rattle.regent_tree.specs.declared.typing.Bound.{Bound}
 use Rattle.check_laws.specs.SoundScopes.{Falls}
 use Rattle.check_laws.proofs.Scopes.{found_by_number}
 
-module _ (x : Setting) (params slots : ℕ) (fit : SlotsFit x slots) (aside : Aside) where
+module _ (x : Setting) (params slots : ℕ) (fit : SlotsFit x slots) {deep : ℕ} (aside : Aside deep) where
   abbrev AreGiven : Here → List StaticType → Expressions → List Value → List Value → Type 0
   AreGiven h ps es vs names = AreGivenBy x params slots fit aside h ps es vs names
 

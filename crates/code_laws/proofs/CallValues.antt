@@ -25,7 +25,7 @@ use Rattle.code_laws.proofs.Values.{named}
 region_cut : (t : StaticType) → IsRegion t → IsPartition t → ⊥
 region_cut _ (a_region_type k sp args r) p = elim p [ ]
 
-module _ (x : Setting) (params slots : ℕ) (fit : SlotsFit x slots) (aside : Aside) where
+module _ (x : Setting) (params slots : ℕ) (fit : SlotsFit x slots) {deep : ℕ} (aside : Aside deep) where
   abbrev AreGiven : Here → List StaticType → Expressions → List Value → List Value → Type 0
   AreGiven h ps es vs names = AreGivenBy x params slots fit aside h ps es vs names
 

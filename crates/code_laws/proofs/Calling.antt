@@ -108,7 +108,7 @@ room_for h task vs given code store c takes =
     ∙ types_length (scope_of h.tree t).names ∙ params_length h.tree t.params 0 t.params in
     (long, omega (arith, long, least_slots (length t.params) (task_code h.tree t).body))
 
-module _ (x : Setting) (params slots : ℕ) (fit : SlotsFit x slots) (aside : Aside) where
+module _ (x : Setting) (params slots : ℕ) (fit : SlotsFit x slots) {deep : ℕ} (aside : Aside deep) where
   -- the value of a child is among the results
   abbrev pub HasResult : ℕ → Here → Name → Value → State → Instance → Type 0
   HasResult n h task v s j = Agrees x params slots aside h s j × (get_or j.results n (pos 0) ≡ kept_number v)
@@ -181,6 +181,7 @@ module _ (x : Setting) (params slots : ℕ) (fit : SlotsFit x slots) (aside : As
             (omega (arith, low, g.memory.stands.count, length-map i.contents.roots (λ (r : Root). r.id.0))))
             h.scope.names s.names g.typed g.inside_store p (omega (arith, l, g.count)));
         hidden = g.hidden;
+        held = g.held;
         typed = g.typed;
         inside_store = all_inside x s.store (take (length s.store) after) h.scope.names s.names same g.typed g.inside_store;
         pointed = g.pointed;

@@ -63,7 +63,7 @@ target_round : (n : ℕ) (tg : Target) → IsPosition n tg → target_kept (kept
 target_round n null_target o = refl
 target_round n (point_target p i) o = kept_round p i o.0
 
-module _ (x : Setting) (params slots : ℕ) (fit : SlotsFit x slots) (aside : Aside) where
+module _ (x : Setting) (params slots : ℕ) (fit : SlotsFit x slots) {deep : ℕ} (aside : Aside deep) where
   pub operand_runs : (h : Here) (b : Bool) (t : StaticType) (v : Value) (s : State) (pc : ℕ) (st : List MachineValue) (i : Instance) →
       FitsOperand b t → IsOf t v → Agrees x params slots aside h s i → Stands x.body pc (operand_code (where_of params h) b t) →
       Gives x params slots fit aside h (operand_type b t) (operand_code (where_of params h) b t) pc (machine_value i.contents v ∷ st) st i

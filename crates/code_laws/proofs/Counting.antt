@@ -39,7 +39,7 @@ use Rattle.code_laws.proofs.Runs.{ends_by, leads_none}
 pub point_fits : (n : ℕ) → n < 2 ^ 32 → FitsWidth W64 (pos n)
 point_fits n l = omega (arith, ints, l)
 
-module _ (x : Setting) (params slots : ℕ) (fit : SlotsFit x slots) (aside : Aside) where
+module _ (x : Setting) (params slots : ℕ) (fit : SlotsFit x slots) {deep : ℕ} (aside : Aside deep) where
   -- a pointer's point
   point_runs : (h : Here) (k : Kind) (n : ℕ) (tg : Target) (rs : List Region) (s : State) (pc : ℕ) (st : List MachineValue)
       (i : Instance) → IsPosition n tg → Agrees x params slots aside h s i → Stands x.body pc (op instr.Point h.line) →

@@ -88,7 +88,7 @@ sound_by points sets true parts apart =
     ap (λ b. b && are_apart sets) (all_within points sets parts) ∙ all_apart sets (apart refl)
 sound_by points sets false parts apart = ap (λ b. b && true) (all_within points sets parts)
 
-module _ (x : Setting) (params slots : ℕ) (fit : SlotsFit x slots) (aside : Aside) where
+module _ (x : Setting) (params slots : ℕ) (fit : SlotsFit x slots) {deep : ℕ} (aside : Aside deep) where
   -- ---- what a name has
 
   -- a region, which lies in the store, in the slot of the name

@@ -35,7 +35,8 @@ use Rattle.code_laws.proofs.Expressions.{value_runs}
 use Rattle.code_laws.proofs.Good.{valued}
 use Rattle.code_laws.proofs.Names.{Grown, block_grown}
 use Rattle.code_laws.proofs.Operations.{named_runs}
-use Rattle.code_laws.proofs.Parts.{GoodPart, IsColoured, cut_of, parent_inside, part_at_colour, part_lies_in, part_runs, part_within}
+pub use Rattle.code_laws.proofs.PartTypes.{IsChild, part_is}
+use Rattle.code_laws.proofs.Parts.{GoodPart, IsColoured, cut_of, parent_inside, part_at_colour, part_lies_in, part_of_name, part_runs}
 use Rattle.code_laws.proofs.Pointing.{own_reached}
 use Rattle.code_laws.proofs.Reaching.{region_lies_in}
 use Rattle.code_laws.proofs.RegionLoops.{regions_run}
@@ -44,55 +45,6 @@ use Rattle.code_laws.proofs.Runs.{then}
 use Rattle.code_laws.proofs.SpaceLoops.{spaces_run}
 use Rattle.code_laws.proofs.Values.{named}
 use Rattle.code_laws.proofs.Wider.{loops_over, looped_over}
-
--- ---- the type of a part
-
--- the region that a part is
-pub record IsChild (t parent : StaticType) (u : Term) : Type 0 where
-  pub kind : Kind
-  pub space : ℕ
-  pub args : List Reach
-  pub is : t ≡ region_type kind space args u
-  pub of_space : space ≡ space_in parent
-
-child_is : (parent : StaticType) (u : Term) → IsRegion (child_type parent u) → IsChild (child_type parent u) parent u
-child_is (region_type k sp args r) u region = record { kind = k; space = sp; args = args; is = refl; of_space = refl }
-child_is (integer_type w) u region = absurd (elim region [ ])
-child_is truth_type u region = absurd (elim region [ ])
-child_is (index_type k) u region = absurd (elim region [ ])
-child_is (pointer_type k sp args rs) u region = absurd (elim region [ ])
-child_is (ispace_type k) u region = absurd (elim region [ ])
-child_is (partition_type d r p) u region = absurd (elim region [ ])
-child_is no_type u region = absurd (elim region [ ])
-child_is unknown_type u region = absurd (elim region [ ])
-
-pub part_is : (w : Where) (n : Name) (e : Expression) → IsOwnCut w n → IsRegion (typed w (access_expr n (at_step e no_step))) →
-    IsChild (typed w (access_expr n (at_step e no_step))) (bound_as w.scope.names (parent_of (bound w n).static_type)).static_type
-    (term.Child (bound w n).number (colour_of w.scope e))
-part_is w n e own region =
-    let u = term.Child (bound w n).number (colour_of w.scope e) in
-    let parent = (bound_as w.scope.names (parent_of (bound w n).static_type)).static_type in
-    let is : typed w (access_expr n (at_step e no_step)) ≡ child_type parent u = ap (λ t. type_of_element w.scope t e) own in
-    let c = child_is parent u (subst IsRegion is region) in
-    record { kind = c.kind; space = c.space; args = c.args; is = is ∙ c.is; of_space = c.of_space }
-
--- a part lies within the region of which its partition is
-part_of_name : (w : Where) (names : List Value) (n : Name) (q : Partition) (c : ℕ) → IsCutName w n → c < length q.sets →
-    IsCut w.scope.names names (parent_of (bound w n).static_type) q →
-    IsOfPart w.scope.names (bound_as w.scope.names (bound w n).number) (length w.scope.names) names
-    (space_in (bound_as w.scope.names (parent_of (bound w n).static_type)).static_type) (bound w n).number (part_at_colour q c)
-part_of_name w names n q c cut low is =
-    subst (λ (b : Bound). IsOfPart w.scope.names b (length w.scope.names) names
-    (space_in (bound_as w.scope.names (parent_of (bound w n).static_type)).static_type) (bound w n).number (part_at_colour q c))
-    (sym (found_by_number w.scope.next w.scope.names n cut.numbers cut.named).0)
-    (record {
-      numbered = refl;
-      partition = cut.partition;
-      parent = is.parent;
-      is = is.is;
-      root = is.root;
-      within = λ k e. part_within is.parent.points q.sets c k is.sets low e;
-    })
 
 -- a region has a region's type
 region_of_type : (t : StaticType) (q : Region) → IsRegion t → IsOf t (a_region q)
@@ -103,7 +55,7 @@ one_region d u e = ap region_of e
 
 module _ (x : Setting) (params slots : ℕ) (fit : SlotsFit x slots) (counts : CountsDown) where
   -- a loop over a region that stands on the stack
-  regions_over : (aside : Aside) (h h2 : Here) (name : Name) (t : StaticType) (v : Value) (body : Run Going) (code : Piece)
+  regions_over : (aside : Aside 0) (h h2 : Here) (name : Name) (t : StaticType) (v : Value) (body : Run Going) (code : Piece)
       (s : State) (pc : ℕ) (i : Instance) → IsRegion t → IsOf t v →
       ((q : Region) → v ≡ a_region q → ((n : ℕ) → has q.points n ≡ true → n < 2 ^ 32) × (q.root < length s.store)) →
       ((q : Region) → v ≡ a_region q → AreReached h.scope.names s.names (space_in t) (reaches_of (taken_from t)) (q ∷ [])) →
@@ -114,7 +66,7 @@ module _ (x : Setting) (params slots : ℕ) (fit : SlotsFit x slots) (counts : C
       Stands x.body (suc (suc (suc pc))) (rounds (instr.NextPoint (beside (where_of params h) (length h.scope.names))
       (counter (where_of params h) (length h.scope.names)) (slot (where_of params h) (length h.scope.names)) (is_pointer (taken_from t))) h.line code) →
       Grown h.scope.names h2.scope.names → program_of h2 ≡ program_of h →
-      ((aside2 : Aside) (s1 : State) (j : Instance) → Agrees x params slots aside2 (looping h name (taken_from t)) s1 j →
+      ((aside2 : Aside 0) (s1 : State) (j : Instance) → Agrees x params slots aside2 (looping h name (taken_from t)) s1 j →
       Does x params slots aside2 (placed (suc (suc (suc (suc pc)))) [] j) (past code (suc (suc (suc (suc pc))))) h2 (body s1)) →
       Does x params slots aside (valued pc [] v i) (suc (past code (suc (suc (suc (suc pc)))))) h (rounds_over h (items_of v) body s)
   regions_over aside h h2 name _ _ body code s pc i (a_region_type k sp args r) (of_region _ _ _ _ q) inside reach low g f1 f2 f3 f4 grown same more =
@@ -123,13 +75,13 @@ module _ (x : Setting) (params slots : ℕ) (fit : SlotsFit x slots) (counts : C
 
   -- what a block of a loop comes to
   abbrev BlockRuns : Here → Block → Type 0
-  BlockRuns h1 body = (aside2 : Aside) (s5 : State) (p : ℕ) (j5 : Instance) → Agrees x params slots aside2 h1 s5 j5 →
+  BlockRuns h1 body = (aside2 : Aside 0) (s5 : State) (p : ℕ) (j5 : Instance) → Agrees x params slots aside2 h1 s5 j5 →
       Stands x.body p (block_code (where_of params h1) body) →
       Does x params slots aside2 (placed p [] j5) (past (block_code (where_of params h1) body) p)
       (record h1 { scope = scope_after_block h1.tree h1.scope body }) (exec_block h1 body s5)
 
   -- `for n in domain`, over an index space or a region that has a name
-  points_run : (aside : Aside) (h : Here) (demanded : Bool) (n : Name) (domain : Expression) (body : Block) (s : State) (pc : ℕ)
+  points_run : (aside : Aside 0) (h : Here) (demanded : Bool) (n : Name) (domain : Expression) (body : Block) (s : State) (pc : ℕ)
       (i : Instance) → params ≤ length h.scope.names →
       IsSpace (typed (where_of params h) domain) ⊎ IsNamedRegion (where_of params h) domain → IsTyped x.forms (where_of params h) domain →
       Agrees x params slots aside h s i → Stands x.body pc (form_code (where_of params h) (for_in_form demanded n domain body)) →
@@ -184,7 +136,7 @@ module _ (x : Setting) (params slots : ℕ) (fit : SlotsFit x slots) (counts : C
   points_run aside h demanded n (space_expr _ _) body s pc i low (inr p) fine g f more = absurd p
 
   -- a part that stands on the stack
-  part_over : (aside : Aside) (h : Here) (demanded : Bool) (n q : Name) (e : Expression) (body : Block) (v : Value) (s : State) (a : ℕ) (j : Instance) →
+  part_over : (aside : Aside 0) (h : Here) (demanded : Bool) (n q : Name) (e : Expression) (body : Block) (v : Value) (s : State) (a : ℕ) (j : Instance) →
       params ≤ length h.scope.names → IsCutName (where_of params h) q → IsOwnCut (where_of params h) q →
       IsRegion (typed (where_of params h) (access_expr q (at_step e no_step))) → IsColoured h q e v s.names → Agrees x params slots aside h s j →
       Stands x.body a (op (instr.Store (beside (where_of params h) (length h.scope.names))) h.line) →
@@ -228,7 +180,7 @@ module _ (x : Setting) (params slots : ℕ) (fit : SlotsFit x slots) (counts : C
       (λ aside2 s5 j5 g5. more aside2 s5 (suc (suc (suc (suc a)))) j5 g5 f4.1))
 
   -- `for n in p[e]`
-  parts_run : (aside : Aside) (h : Here) (demanded : Bool) (n : Name) (domain : Expression) (body : Block) (s : State) (pc : ℕ)
+  parts_run : (aside : Aside 0) (h : Here) (demanded : Bool) (n : Name) (domain : Expression) (body : Block) (s : State) (pc : ℕ)
       (i : Instance) → params ≤ length h.scope.names → LoopsOverPart (where_of params h) domain (IsIndexed x.forms (where_of params h) domain) →
       Agrees x params slots aside h s i → Stands x.body pc (form_code (where_of params h) (for_in_form demanded n domain body)) →
       BlockRuns (looping h n (taken_from (typed (where_of params h) domain))) body →
@@ -260,7 +212,7 @@ module _ (x : Setting) (params slots : ℕ) (fit : SlotsFit x slots) (counts : C
   parts_run aside h demanded n (space_expr _ _) body s pc i low part g f more = absurd part
 
   -- `for n in domain`, whose body is typed
-  pub domains_run : (aside : Aside) (h : Here) (demanded : Bool) (n : Name) (domain : Expression) (body : Block) (s : State) (pc : ℕ)
+  pub domains_run : (aside : Aside 0) (h : Here) (demanded : Bool) (n : Name) (domain : Expression) (body : Block) (s : State) (pc : ℕ)
       (i : Instance) → params ≤ length h.scope.names → (Body : Type 0) →
       IsLooped x.forms.keeps (where_of params h) domain (IsTyped x.forms (where_of params h) domain) (IsIndexed x.forms (where_of params h) domain) Body →
       Agrees x params slots aside h s i → Stands x.body pc (form_code (where_of params h) (for_in_form demanded n domain body)) →

@@ -29,7 +29,7 @@ use Rattle.code_laws.proofs.Values.{named}
 use Rattle.code_laws.proofs.Going.{does_come}
 use Rattle.code_laws.proofs.Writes.{GoesOn, access_folds, access_writes, field_value}
 
-module _ (x : Setting) (params slots : ℕ) (fit : SlotsFit x slots) (aside : Aside) where
+module _ (x : Setting) (params slots : ℕ) (fit : SlotsFit x slots) (aside : Aside 0) where
   -- `r[e].f = v`, with the value on the stack
   pub sets_element : (h : Here) (n : Name) (e : Expression) (f : Name) (out : StaticType) (v : Value) (s : State) (pc : ℕ)
       (i : Instance) → params ≤ length h.scope.names → IsTyped x.forms (where_of params h) e → IsCounting (typed (where_of params h) e) →

@@ -43,7 +43,7 @@ use Rattle.code_laws.proofs.Reaching.{kept_here, reached, rewritten}
 use Rattle.code_laws.proofs.Runs.{comes_before, leads_by}
 use Rattle.code_laws.proofs.Touching.{parted}
 
-module _ (x : Setting) (params slots : ℕ) (fit : SlotsFit x slots) (aside : Aside) where
+module _ (x : Setting) (params slots : ℕ) (fit : SlotsFit x slots) {deep : ℕ} (aside : Aside deep) where
   -- of the region of a name, with a colour space on the stack
   pub by_field_runs : (h : Here) (from : StaticType) (v : Value) (r f : Name) (own : ℕ) (s : State) (pc : ℕ) (i : Instance) → IsSpace from →
       IsScanned x.forms (where_of params h) r f → IsOf from v → Agrees x params slots aside h s i →

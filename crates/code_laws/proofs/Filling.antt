@@ -168,7 +168,7 @@ fills x i pc line s f place w z st xs store there h good stands = by_points xs r
 
 -- ---- the fields of a statement
 
-module _ (x : Setting) (params slots : ℕ) (fit : SlotsFit x slots) (aside : Aside) where
+module _ (x : Setting) (params slots : ℕ) (fit : SlotsFit x slots) (aside : Aside 0) where
   pub fields_filled : (h : Here) (r : Name) (from : StaticType) (v : Value) (q : Region) (fs : List Name)
       (s : State) (pc : ℕ) (i : Instance) → AreFilled x.forms.keeps (where_of params h) r from fs → MayFill x.forms (where_of params h) r fs →
       IsRegion (bound_to h.scope.names r).static_type → IsOf from v →

@@ -67,7 +67,7 @@ max_left w z y p e =
 abbrev IsTarget : Setting → Here → Name → Type 0
 IsTarget x h n = (is_bound h.scope.names n ≡ true) × MayChange x.forms.takes (bound_to h.scope.names n).by_loop
 
-module _ (x : Setting) (params slots : ℕ) (fit : SlotsFit x slots) (counts : CountsDown) (aside : Aside) where
+module _ (x : Setting) (params slots : ℕ) (fit : SlotsFit x slots) (counts : CountsDown) (aside : Aside 0) where
   -- a name's slot is pushed
   loads : (h : Here) (n : Name) (z : ℤ) (w : Width) (s : State) (pc line : ℕ) (st : List MachineValue) (i : Instance) →
       is_bound h.scope.names n ≡ true → get_or s.names (bound_to h.scope.names n).place nothing ≡ a_number w z →

@@ -56,7 +56,7 @@ module _ (h : Here) (t : StaticType) (f : Name) (K : Value → Run Value) where
   element_on v (gives w s) = standing_on v (standing h w s)
   element_on v (fails e s) = refl
 
-module _ (x : Setting) (params slots : ℕ) (fit : SlotsFit x slots) (aside : Aside) where
+module _ (x : Setting) (params slots : ℕ) (fit : SlotsFit x slots) {deep : ℕ} (aside : Aside deep) where
   -- a field of what a pointer goes to, which stands on the stack
   pointer_field : (h : Here) (t : StaticType) (f : Name) (out : StaticType) (v : Value) (s : State) (pc : ℕ) (st : List MachineValue) (i : Instance) →
       IsPointer t → AreReachable (where_of params h) t → has_wild (reaches_of t) ≡ false →
@@ -97,7 +97,7 @@ module _ (x : Setting) (params slots : ℕ) (fit : SlotsFit x slots) (aside : As
   further_reads h d (at_step e rest) t f v s pc st i fine o pointed g stands = absurd fine.1
 
   -- behind what gives a pointer
-  then_further : (h : Here) (d : ℕ) (t : StaticType) (f : Name) (rest : Steps) (i : Instance) (a : ℕ) (st : List MachineValue) (r : Result Value) →
+  pub then_further : (h : Here) (d : ℕ) (t : StaticType) (f : Name) (rest : Steps) (i : Instance) (a : ℕ) (st : List MachineValue) (r : Result Value) →
       AreFurther x.forms (where_of params h) t (field_step f rest) → GivesOnly (λ y s1. IsPointed h.scope.names s1.names t y) r →
       Comes x i (valued a st) (Good x params slots fit aside h t) r → Stands x.body a (steps_code (where_of params h) d t 0 (field_step f rest)) →
       Comes x i (valued (past (steps_code (where_of params h) d t 0 (field_step f rest)) a) st)

@@ -62,7 +62,14 @@ front_element_pointing w n e f g no_step lo there = there
 front_element_pointing w n e f g (field_step k rest) lo there = there
 front_element_pointing w n e f g (at_step i rest) lo there = absurd (no_way_back lo)
 
-module _ (x : Setting) (params slots : ℕ) (fit : SlotsFit x slots) (aside : Aside) where
+pub front_part_pointing : (w : Where) (n : Name) (e i : Expression) (f g : Name) (rest : Steps) → are_fields rest ≡ true →
+    AreReachable w (typed w (access_expr n (before_last (at_step e (at_step i (field_step f (field_step g rest))))))) →
+    IsPointing w (access_expr n (before_last (at_step e (at_step i (field_step f (field_step g rest))))))
+front_part_pointing w n e i f g no_step lo there = there
+front_part_pointing w n e i f g (field_step k rest) lo there = there
+front_part_pointing w n e i f g (at_step y rest) lo there = absurd (no_way_back lo)
+
+module _ (x : Setting) (params slots : ℕ) (fit : SlotsFit x slots) (aside : Aside 0) where
   -- through a pointer that stands on the stack
   sets_pointer : (h : Here) (t : StaticType) (own : ℕ) (f : Name) (out : StaticType) (u v : Value) (s : State) (pc : ℕ) (i : Instance) →
       IsPointer t → AreReachable (where_of params h) t → has_wild (reaches_of t) ≡ false →
@@ -234,3 +241,30 @@ module _ (x : Setting) (params slots : ℕ) (fit : SlotsFit x slots) (aside : As
       reduce_runs counts o h n steps e (access_expr n (before_last steps)) _ (last_field steps) s pc i low fine.1 fine.2 fine.3
       (last_type h.tree h.scope (field_step g rest) (type_of_element h.scope (bound_to h.scope.names n).static_type y) f fine.4.0) fine.4.1
       (front_element_pointing w n y f g rest fine.4.0 fine.4.2.reachable) fine.4.2 agrees stands
+
+  -- so of elements of parts that have no name
+  pub part_set_further : (counts : CountsDown) (h : Here) (n : Name) (y y2 : Expression) (f g : Name) (rest : Steps) (e : Expression) (s : State) (pc : ℕ)
+      (i : Instance) → params ≤ length h.scope.names →
+      IsSetThrough x.forms (where_of params h) n (at_step y (at_step y2 (field_step f (field_step g rest)))) rest e → Agrees x params slots aside h s i →
+      Stands x.body pc (form_code (where_of params h) (assign_form n (at_step y (at_step y2 (field_step f (field_step g rest)))) how.Set e)) →
+      Does x params slots aside (placed pc [] i) (past (form_code (where_of params h) (assign_form n (at_step y (at_step y2 (field_step f (field_step g rest)))) how.Set e)) pc) h
+      (exec h (assign_form n (at_step y (at_step y2 (field_step f (field_step g rest)))) how.Set e) s)
+  part_set_further counts h n y y2 f g rest e s pc i low fine agrees stands =
+      let w = where_of params h in
+      let steps = at_step y (at_step y2 (field_step f (field_step g rest))) in
+      set_runs counts h n steps e (access_expr n (before_last steps)) _ (last_field steps) s pc i low fine.1 fine.2
+      (last_type h.tree h.scope (field_step g rest) (type_of_element h.scope (type_of_element h.scope (bound_to h.scope.names n).static_type y) y2) f fine.3.0)
+      fine.3.1 (front_part_pointing w n y y2 f g rest fine.3.0 fine.3.2.reachable) fine.3.2 agrees stands
+
+  pub part_reduced_further : (counts : CountsDown) (o : Op) (h : Here) (n : Name) (y y2 : Expression) (f g : Name) (rest : Steps) (e : Expression) (s : State) (pc : ℕ)
+      (i : Instance) → params ≤ length h.scope.names →
+      IsReducedThrough x.forms (where_of params h) n (at_step y (at_step y2 (field_step f (field_step g rest)))) rest o e → Agrees x params slots aside h s i →
+      Stands x.body pc (form_code (where_of params h) (assign_form n (at_step y (at_step y2 (field_step f (field_step g rest)))) (how.Reduce o) e)) →
+      Does x params slots aside (placed pc [] i) (past (form_code (where_of params h) (assign_form n (at_step y (at_step y2 (field_step f (field_step g rest)))) (how.Reduce o) e)) pc) h
+      (exec h (assign_form n (at_step y (at_step y2 (field_step f (field_step g rest)))) (how.Reduce o) e) s)
+  part_reduced_further counts o h n y y2 f g rest e s pc i low fine agrees stands =
+      let w = where_of params h in
+      let steps = at_step y (at_step y2 (field_step f (field_step g rest))) in
+      reduce_runs counts o h n steps e (access_expr n (before_last steps)) _ (last_field steps) s pc i low fine.1 fine.2 fine.3
+      (last_type h.tree h.scope (field_step g rest) (type_of_element h.scope (type_of_element h.scope (bound_to h.scope.names n).static_type y) y2) f fine.4.0)
+      fine.4.1 (front_part_pointing w n y y2 f g rest fine.4.0 fine.4.2.reachable) fine.4.2 agrees stands

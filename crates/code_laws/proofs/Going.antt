@@ -15,7 +15,7 @@ IsGoing (returned v) = ⊥
 no_return : (v : Value) → returned v ≡ goes_on → ⊥
 no_return v e = subst IsGoing (sym e) tt
 
-module _ (x : Setting) (params slots : ℕ) (fit : SlotsFit x slots) (aside : Aside) where
+module _ (x : Setting) (params slots : ℕ) (fit : SlotsFit x slots) (aside : Aside 0) where
   -- what goes on is done
   pub does_come : (pc : ℕ) (h : Here) (i : Instance) (r : Result Going) →
       Comes x i (λ g j. placed pc [] j) (GoesOn x params slots fit aside h) r → Does x params slots aside i pc h r

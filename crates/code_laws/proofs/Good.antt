@@ -17,7 +17,7 @@ use Rattle.code_laws.proofs.Runs.{leads_by}
 abbrev pub valued : ℕ → List MachineValue → Value → Instance → Instance
 valued pc st v j = placed pc (machine_value j.contents v ∷ st) j
 
-module _ (x : Setting) (params slots : ℕ) (fit : SlotsFit x slots) (aside : Aside) where
+module _ (x : Setting) (params slots : ℕ) (fit : SlotsFit x slots) {deep : ℕ} (aside : Aside deep) where
   -- the value is of its type, and the instance agrees with the state
   abbrev pub Good : Here → StaticType → Value → State → Instance → Type 0
   Good h t v s j = IsOf t v × Agrees x params slots aside h s j

@@ -42,7 +42,7 @@ arguments_keep_names h ts es s = (values_kept names_law h (any_calls h.calls) ts
 
 -- ---- what arguments are
 
-module _ (x : Setting) (params slots : ℕ) (fit : SlotsFit x slots) (aside : Aside) where
+module _ (x : Setting) (params slots : ℕ) (fit : SlotsFit x slots) {deep : ℕ} (aside : Aside deep) where
   -- a region that has a name is the value of the name
   pub record IsHandedAs (h : Here) (p : StaticType) (e : Expression) (v : Value) (names : List Value) : Type 0 where
     pub taking : Taking

@@ -101,7 +101,7 @@ parts_wider q p sets sub parts k d l =
     let part = parts k d l in
     (part.0, within_from_each (get_or sets k d) p.points (λ x m. points_within q p sub x (within_each (get_or sets k d) q.points part.1 x m)))
 
-module _ (x : Setting) (params slots : ℕ) (fit : SlotsFit x slots) (aside : Aside) where
+module _ (x : Setting) (params slots : ℕ) (fit : SlotsFit x slots) {deep : ℕ} (aside : Aside deep) where
   -- what the machine has for a region and a partition
   abbrev value_of : Instance → Region → RegionValue
   value_of i q = region_with (number_at i.contents q.root) q.points

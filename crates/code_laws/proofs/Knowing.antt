@@ -1,6 +1,6 @@
 -- What is known of the value that an expression gives: the regions of a pointer are those that its type names.
 use Rattle.std.proofs.Common.{◌≡◌, ◌⊎◌, ⊎_elim, inl, inr, ℕ, List, [], ◌∷◌, Bool, true, false, ℤ, pos, negsuc, Some, refl, sym, ap, ◌∙◌, subst}
-use Rattle.std.specs.Prelude.{get_or, length}
+use Rattle.std.specs.Prelude.{get_or, length, nat_lt}
 use Rattle.plain_values.specs.Points.{has}
 use Rattle.lane_kernels.specs.declared.numbers.FieldKind.{FieldKind}
 use Rattle.lane_kernels.specs.declared.numbers.FieldKind.TheVariants.{Index, Int32, Int64, Pointer, Truth}
@@ -15,6 +15,7 @@ use Rattle.regent_tree.specs.StaticTypes.{Reach, field_kind, field_place, field_
 use Rattle.regent_tree.specs.Syntax.{Expression, Name, Steps, number_expr, truth_expr, chain_expr, prefix_expr, call_expr, access_expr, convert_expr, is_null_expr, null_expr, cast_expr, space_expr, no_step, field_step, at_step}
 use Rattle.regent_tree.specs.Typing.{reaches_of, stepped_type, taken_from, type_of_element, type_of_field}
 use Rattle.regent_tree.specs.Values.{Region, Value, a_number, a_partition, a_pointer, a_region, a_space, a_truth, an_index, meant, null_target, number_of, point_target}
+use Rattle.regent_tree.specs.declared.outcome.FaultKind.{FaultKind}
 use Rattle.regent_tree.specs.declared.outcome.FaultKind.TheVariants.{OutOfRegion}
 use Rattle.regent_tree.specs.declared.types.Kind.{Kind}
 use Rattle.regent_tree.specs.declared.typing.Bound.{Bound}
@@ -29,6 +30,7 @@ use Rattle.code_laws.specs.Simple.{IsPartition, IsRegion, a_partition_type, a_re
 use Rattle.code_laws.specs.Standing.{AreOf, Comes, IsOf, nothing, of_partition, of_pointer, of_region, where_of}
 use Rattle.code_laws.specs.Steps.{Forms, Setting}
 use Rattle.code_laws.specs.Typed.{AreFurther, IsBehind, IsPointing, IsTyped, MayGo, element_field, field_behind}
+use Rattle.code_laws.proofs.PartTypes.{is_pointer_type, part_pointer}
 use Rattle.code_laws.proofs.Pointing.{named_pointed, own_reached}
 use Rattle.code_laws.proofs.PointerValues.{there_reached}
 use Rattle.code_laws.proofs.Runs.{Said}
@@ -199,6 +201,63 @@ module _ (forms : Forms) (params : ℕ) (h : Here) where
       (λ v. stepped h (type_of_element h.scope t e) v (field_step f (field_step g rest))) (value h e s) s (expressions_keep_names h e s)
       (λ s1 n names. behind_further rest (type_of_element h.scope t e) f g (a_pointer (point_target n 1) (q ∷ [])) s1 fine (scope_stays h s s1 out names a))
 
+-- ---- fields of elements of parts that have no name
+
+-- whatever is taken at an index, the names stay
+module _ (h : Here) (P : Value → State → Type 0) (K : Value → Run Value) where
+  chosen_only : (b : Bool) (v : Value) (k : FaultKind) (s : State) → ((u : Value) (s1 : State) → s1.names ≡ s.names → GivesOnly P (K u s1)) →
+      GivesOnly P (and_then (if_true b (given v) (fault h k) s) K)
+  chosen_only true v k s p = p v s refl
+  chosen_only false v k s p = tt
+
+  point_only : (v : Value) (z : ℤ) (s : State) → ((u : Value) (s1 : State) → s1.names ≡ s.names → GivesOnly P (K u s1)) →
+      GivesOnly P (and_then (take_element h z v s) K)
+  point_only (a_region r) (pos n) s p = chosen_only (has r.points n) _ _ s p
+  point_only (a_region r) (negsuc n) s p = tt
+  point_only (a_partition q) (pos n) s p = chosen_only (nat_lt n (length q.sets)) _ _ s p
+  point_only (a_partition q) (negsuc n) s p = tt
+  point_only (a_pointer tg qs) z s p = p _ s refl
+  point_only (a_number w y) z s p = p _ s refl
+  point_only (a_truth b) z s p = p _ s refl
+  point_only (an_index y) z s p = p _ s refl
+  point_only (a_space n) z s p = p _ s refl
+
+  index_only : (v : Value) (r : Result Value) (s : State) → Leaves SameNames s r → ((u : Value) (s1 : State) → s1.names ≡ s.names → GivesOnly P (K u s1)) →
+      GivesOnly P (and_then r (λ w s1. and_then (standing h w s1) (λ z. λ s2. and_then (take_element h (number_of z) v s2) K)))
+  index_only v (fails f s1) s same p = tt
+  index_only v (gives (a_number w z) s1) s same p = point_only v z s1 (λ u s2 e. p u s2 (e ∙ same))
+  index_only v (gives (a_truth b) s1) s same p = point_only v (pos 0) s1 (λ u s2 e. p u s2 (e ∙ same))
+  index_only v (gives (an_index z) s1) s same p = point_only v z s1 (λ u s2 e. p u s2 (e ∙ same))
+  index_only v (gives (a_pointer null_target rs) s1) s same p = tt
+  index_only v (gives (a_pointer (point_target m i) rs) s1) s same p = point_only v (pos m) s1 (λ u s2 e. p u s2 (e ∙ same))
+  index_only v (gives (a_space n) s1) s same p = point_only v (pos 0) s1 (λ u s2 e. p u s2 (e ∙ same))
+  index_only v (gives (a_region r) s1) s same p = point_only v (pos 0) s1 (λ u s2 e. p u s2 (e ∙ same))
+  index_only v (gives (a_partition r) s1) s same p = point_only v (pos 0) s1 (λ u s2 e. p u s2 (e ∙ same))
+
+module _ (forms : Forms) (params : ℕ) (h : Here) where
+  -- one field after the other, from a pointer's type on
+  fields_pointed : (rest : Steps) (t : StaticType) (f : Name) (v : Value) (s : State) → IsPointer t →
+      AreFurther forms (where_of params h) (type_of_field h.tree t f) rest → AreInScope h s (stepped_type h.tree h.scope t (field_step f rest)) →
+      GivesOnly (λ u s1. IsPointed h.scope.names s1.names (stepped_type h.tree h.scope t (field_step f rest)) u) (stepped h t v (field_step f rest) s)
+  fields_pointed no_step t f v s pointer fine a = taken_pointed h t f v s pointer a
+  fields_pointed (field_step g rest) t f v s pointer fine a = behind_further forms params h rest t f g v s fine a
+  fields_pointed (at_step e rest) t f v s pointer fine a = absurd fine
+
+  -- `p[e][i].f`, and what comes behind it
+  part_further : (rest : Steps) (t : StaticType) (e i : Expression) (f : Name) (v : Value) (s : State) →
+      IsPointer (type_of_element h.scope (type_of_element h.scope t e) i) →
+      AreFurther forms (where_of params h) (type_of_field h.tree (type_of_element h.scope (type_of_element h.scope t e) i) f) rest →
+      AreInScope h s (stepped_type h.tree h.scope t (at_step e (at_step i (field_step f rest)))) →
+      GivesOnly (λ u s1. IsPointed h.scope.names s1.names (stepped_type h.tree h.scope t (at_step e (at_step i (field_step f rest)))) u)
+      (stepped h t v (at_step e (at_step i (field_step f rest))) s)
+  part_further rest t e i f v s pointer fine a =
+      let out = stepped_type h.tree h.scope t (at_step e (at_step i (field_step f rest))) in
+      let rt = type_of_element h.scope t e in
+      let P : Value → State → Type 0 = λ u s1. IsPointed h.scope.names s1.names out u in
+      index_only h P (λ u. stepped h rt u (at_step i (field_step f rest))) v (value h e s) s (expressions_keep_names h e s)
+      (λ u s1 names. index_only h P (λ u. stepped h (type_of_element h.scope rt i) u (field_step f rest)) u (value h i s1) s1 (expressions_keep_names h i s1)
+      (λ u2 s2 names2. fields_pointed rest (type_of_element h.scope rt i) f u2 s2 pointer fine (scope_stays h s s2 out (names2 ∙ names) a)))
+
 -- ---- written types
 
 cast_pointed : (h : Here) (names : List Value) (t : StaticType) (v : Value) (qs : List Region) →
@@ -267,7 +326,12 @@ pointing forms params h (access_expr n (at_step e (field_step f (field_step g re
     let m = named IsOf h.scope.names s.names n o field.named in
     field_further forms params h rest b.static_type e f g (get_or s.names b.place nothing) s field.region m.holding fine.6 (o, long, p)
 pointing forms params h (access_expr n (at_step _ (field_step _ (at_step _ _)))) s fine p a o long = absurd p
-pointing forms params h (access_expr n (at_step _ (at_step _ _))) s fine p a o long = absurd p
+pointing forms params h (access_expr n (at_step e (at_step i (field_step f rest)))) s fine p a o long =
+    let b = bound_to h.scope.names n in
+    part_further forms params h rest b.static_type e i f (get_or s.names b.place nothing) s
+    (is_pointer_type _ _ _ (part_pointer (where_of params h) n e i fine.1)) fine.5 (o, long, p)
+pointing forms params h (access_expr n (at_step _ (at_step _ no_step))) s fine p a o long = absurd p
+pointing forms params h (access_expr n (at_step _ (at_step _ (at_step _ _)))) s fine p a o long = absurd p
 pointing forms params h (number_expr _ _) s fine p a o long = absurd p
 pointing forms params h (truth_expr _) s fine p a o long = absurd p
 pointing forms params h (chain_expr _ _) s fine p a o long = absurd p

@@ -32,6 +32,7 @@ pub mod Columns
 pub mod Cuts
 pub mod FieldCuts
 pub mod Parts
+pub mod PartTypes
 pub mod SeenColours
 pub mod Handing
 pub mod Began
@@ -49,6 +50,8 @@ pub mod Comparing
 pub mod Signs
 pub mod Knowing
 pub mod Further
+pub mod PartElements
+pub mod PartReads
 pub mod Expressions
 pub mod Rows
 pub mod PairCuts
@@ -59,6 +62,7 @@ pub mod RegionLoops
 pub mod PrintRuns
 pub mod Elements
 pub mod FurtherWrites
+pub mod PartWrites
 pub mod Folds
 pub mod Variables
 pub mod Moving

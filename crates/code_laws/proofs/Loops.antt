@@ -57,7 +57,7 @@ next_fits W64 z b p q e = grind (arith, ints)
 
 module _ (x : Setting) (params slots : ℕ) (fit : SlotsFit x slots) (counts : CountsDown) where
   -- a loop with a test, from the place of the test; its body is known to run
-  pub turning_runs : (k : ℕ) (aside : Aside) (h : Here) (test : Expression) (body : Run Going)
+  pub turning_runs : (k : ℕ) (aside : Aside 0) (h : Here) (test : Expression) (body : Run Going)
       (code : Piece) (s : State) (pc : ℕ) (i : Instance) → params ≤ length h.scope.names →
       IsTruth (typed (where_of params h) test) → IsTyped x.forms (where_of params h) test →
       k ≤ aside.turns → Agrees x params slots (record aside { turns = k }) h s i →
@@ -101,7 +101,7 @@ module _ (x : Setting) (params slots : ℕ) (fit : SlotsFit x slots) (counts : C
   -- ---- counted loops
 
   -- what follows a round: its names are left
-  then_round : (aside aside2 : Aside) (pc pc2 n : ℕ) (h2 h3 : Here) (i : Instance) (r : Result Going)
+  then_round : (aside aside2 : Aside 0) (pc pc2 n : ℕ) (h2 h3 : Here) (i : Instance) (r : Result Going)
       (rest : Run Going) → Does x params slots aside i pc h2 r →
       ((s : State) (j : Instance) → Agrees x params slots aside h2 s j → HasMore i.frame.own j.frame.own →
       Does x params slots aside2 (placed pc [] j) pc2 h3 (rest (record s { names = take n s.names }))) →
@@ -193,7 +193,7 @@ module _ (x : Setting) (params slots : ℕ) (fit : SlotsFit x slots) (counts : C
         (slot (where_of params h) (length h.scope.names)) put z m i))
 
   -- one round, and what comes after it
-  pub one_round : (m : ℕ) (aside : Aside) (h h2 : Here) (n : Name) (t : StaticType) (item : Value)
+  pub one_round : (m : ℕ) (aside : Aside 0) (h h2 : Here) (n : Name) (t : StaticType) (item : Value)
       (body : Run Going) (code : Piece) (z : ℤ) (keeps : MachineValue) (head : ℕ → Instr) (s : State) (pc : ℕ) (i : Instance) →
       IsOf t item → IsInside x s.store t item → IsPointed h.scope.names s.names t item → IsNoRegion item →
       ((q : Region) → GoesToPart t item q → (keeps ≡ machine_value i.contents (a_region q)) × (q.root < length s.store)) → params ≤ length h.scope.names →
@@ -202,7 +202,7 @@ module _ (x : Setting) (params slots : ℕ) (fit : SlotsFit x slots) (counts : C
       slice_get i.frame.slots (beside (where_of params h) (length h.scope.names)) ≡ Some keeps →
       Stands x.body pc (rounds head h.line code) →
       Grown h.scope.names h2.scope.names → program_of h2 ≡ program_of h →
-      ((aside2 : Aside) (s1 : State) (j : Instance) → Agrees x params slots aside2 (looping h n t) s1 j →
+      ((aside2 : Aside 0) (s1 : State) (j : Instance) → Agrees x params slots aside2 (looping h n t) s1 j →
       Does x params slots aside2 (placed (suc pc) [] j) (past code (suc pc)) h2 (body s1)) →
       (rest : Run Going) → s.turns ≡ m →
       ((s3 : State) (j3 : Instance) → Agrees x params slots aside h s3 j3 →
@@ -235,7 +235,7 @@ module _ (x : Setting) (params slots : ℕ) (fit : SlotsFit x slots) (counts : C
       let up : aside.upto ≤ k = omega (arith, g.inside, g.count) in
       let g3 = aside_stored x params slots fit aside (looping h n t) s2 i2 k 1 (machine.Number (z +ℤ pos 1))
       low up (omega arith) (omega arith) (omega arith) refl g2 in
-      let aside2 : Aside = record { upto = suc k; slots = j.frame.slots; names = s2.names; turns = m } in
+      let aside2 : Aside 0 = record { upto = suc k; slots = j.frame.slots; names = s2.names; turns = m; held = λ p. blank } in
       let g4 = enters x params slots fit aside (looping h n t) s2 j (suc k) (omega (arith, g3.count)) g3 in
       let e = past code (suc pc) in
       does_before x params slots fit counts aside (suc e) h _ _ _ (is.begins m (g.turns ∙ q))
@@ -260,7 +260,7 @@ module _ (x : Setting) (params slots : ℕ) (fit : SlotsFit x slots) (counts : C
       ∙ g5.steady p q (omega (arith, l)) (get_or-append s.names (item ∷ []) nothing p (omega (arith, l, g.count)) ∙ d)) more_own)))
 
   -- from the head on
-  pub counting_runs : (k : ℕ) (aside : Aside) (h h2 : Here) (n : Name) (t : StaticType) (wd : Width)
+  pub counting_runs : (k : ℕ) (aside : Aside 0) (h h2 : Here) (n : Name) (t : StaticType) (wd : Width)
       (body : Run Going) (code : Piece) (z b : ℤ) (s : State) (pc : ℕ) (i : Instance) →
       ((y : ℤ) → FitsWidth wd y → IsOf t (a_number wd y)) → FitsWidth wd z → FitsWidth wd b → params ≤ length h.scope.names → distance z b ≡ k →
       Agrees x params slots aside h s i →
@@ -269,7 +269,7 @@ module _ (x : Setting) (params slots : ℕ) (fit : SlotsFit x slots) (counts : C
       Stands x.body pc (rounds (instr.NextNumber (counter (where_of params h) (length h.scope.names))
       (beside (where_of params h) (length h.scope.names)) (slot (where_of params h) (length h.scope.names))) h.line code) →
       Grown h.scope.names h2.scope.names → program_of h2 ≡ program_of h →
-      ((aside2 : Aside) (s1 : State) (j : Instance) → Agrees x params slots aside2 (looping h n t) s1 j →
+      ((aside2 : Aside 0) (s1 : State) (j : Instance) → Agrees x params slots aside2 (looping h n t) s1 j →
       Does x params slots aside2 (placed (suc pc) [] j) (past code (suc pc)) h2 (body s1)) →
       Does x params slots aside (placed pc [] i) (suc (past code (suc pc))) h
       (counting h k wd z body s)

@@ -139,7 +139,7 @@ new_lies code store sp size small =
       set = counted_points size small;
     }
 
-module _ (x : Setting) (params slots : ℕ) (aside : Aside) where
+module _ (x : Setting) (params slots : ℕ) {deep : ℕ} (aside : Aside deep) where
   -- the state with the new root
   abbrev pub with_new : Here → ℕ → ℕ → State → State
   with_new h sp size s = record s { store = s.store ++ new_root sp size (field_kinds h.tree sp) ∷ [] }
@@ -163,6 +163,7 @@ module _ (x : Setting) (params slots : ℕ) (aside : Aside) where
             (λ r low. number_old i.contents image g.memory.stands.numbered r (omega (arith, low, g.memory.stands.count)))
             h.scope.names s.names g.typed g.inside_store p (omega (arith, l, g.count)));
         hidden = g.hidden;
+        held = g.held;
         typed = g.typed;
         inside_store = all_more x s.store image h.scope.names s.names g.typed g.inside_store;
         pointed = g.pointed;

@@ -84,7 +84,7 @@ moved_small js m n null_target small o = tt
 moved_small js m n (point_target p zero) small o = (o.0, omega arith)
 moved_small js m n (point_target p (suc c)) small o = (o.0, small c)
 
-module _ (x : Setting) (params slots : ℕ) (fit : SlotsFit x slots) (aside : Aside) where
+module _ (x : Setting) (params slots : ℕ) (fit : SlotsFit x slots) {deep : ℕ} (aside : Aside deep) where
   -- a pointer's position is moved
   moves : (js : List ℕ) (m line : ℕ) (tg : Target) (pc : ℕ) (st : List MachineValue) (i : Instance) → length js ≡ m → IsPosition m tg →
       Stands x.body pc (op (instr.Move js) line) →
@@ -171,7 +171,7 @@ pointer_alike : (t : StaticType) (old : Value) (tg : Target) → IsPointer t →
 pointer_alike _ _ tg (a_pointer_type k sp args rs n) (of_pointer _ _ _ _ tg0 us o) = (λ q e. absurd cc, λ bs names t p. p)
 
 module _ (x : Setting) (params slots : ℕ) (fit : SlotsFit x slots) (counts : CountsDown) where
-  writes_pointer : (aside : Aside) (h : Here) (n : Name) (t : StaticType) (v : Value) (s : State) (pc : ℕ) (i : Instance) →
+  writes_pointer : (aside : Aside 0) (h : Here) (n : Name) (t : StaticType) (v : Value) (s : State) (pc : ℕ) (i : Instance) →
       (bound_to h.scope.names n).static_type ≡ t → IsPointer t → IsOf t v → is_bound h.scope.names n ≡ true → MayChange x.forms.takes (bound_to h.scope.names n).by_loop → Agrees x params slots aside h s i →
       Stands x.body pc (op (instr.Store (slot_named (where_of params h) n)) h.line) →
       Does x params slots aside (valued pc [] v i) (suc pc) h (write_name h n how.Set v s)
@@ -190,7 +190,7 @@ module _ (x : Setting) (params slots : ℕ) (fit : SlotsFit x slots) (counts : C
             (subst (λ u. IsInside x s.store u new) (sym e) tt) alike.0 alike.1 (λ t q goes. goes_alike t old tg q goes) g,
       )
 
-  pub assigns : (aside : Aside) (h : Here) (n : Name) (from : StaticType) (v : Value) (s : State) (pc : ℕ) (i : Instance) →
+  pub assigns : (aside : Aside 0) (h : Here) (n : Name) (from : StaticType) (v : Value) (s : State) (pc : ℕ) (i : Instance) →
       Assigned from (bound_to h.scope.names n).static_type → IsOf (bound_to h.scope.names n).static_type v →
       is_bound h.scope.names n ≡ true → MayChange x.forms.takes (bound_to h.scope.names n).by_loop → Agrees x params slots aside h s i →
       Stands x.body pc (op (instr.Store (slot_named (where_of params h) n)) h.line) →

@@ -189,8 +189,8 @@ fits_slots x tree t e pc l f = by (nat_lt pc (2 ^ 32)) (subst (λ b. fetch b pc 
     by false e = absurd (none-some l e)
 
 -- nothing is put aside where a task begins
-abbrev pub before_all : ℕ → Aside
-before_all turns = record { upto = 0; slots = []; names = []; turns = turns }
+abbrev pub before_all : ℕ → Aside 0
+before_all turns = record { upto = 0; slots = []; names = []; turns = turns; held = λ p. blank }
 
 -- ---- slots where a task begins
 
@@ -247,6 +247,7 @@ module _ (tree : Tree) (turns more depth : ℕ) (t : TaskTree) (place : ℕ) (vs
             ∙ get_or-append ms blanks blank k (omega (arith, l, same))
             ∙ ap (λ ys. get_or ys k blank) (sym e.1) ∙ get_or-map (machine_value c) us k nothing;
         hidden = λ k a b. absurd (omega (arith, b));
+        held = λ k l. absurd (omega (arith, l));
         typed = names_typed IsOf sc.names us (params_from tree t.params 0 t.params) e.0;
         inside_store = names_typed (IsInside x store) sc.names us (params_from tree t.params 0 t.params)
             (entered_inside x store sc vs (param_types tree t) vs takes inside);

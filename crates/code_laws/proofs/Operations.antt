@@ -59,7 +59,7 @@ fetch_small body pc l e = by (nat_lt pc (2 ^ 32)) refl e
     by true q e = ltb-true pc (2 ^ 32) q
     by false q e = absurd (none-some l e)
 
-module _ (x : Setting) (params slots : ℕ) (fit : SlotsFit x slots) (aside : Aside) where
+module _ (x : Setting) (params slots : ℕ) (fit : SlotsFit x slots) {deep : ℕ} (aside : Aside deep) where
   -- ---- arithmetic
 
   pub divided_runs : (h : Here) (w : Width) (t : StaticType) (made : ℤ → Value) (s : State) (pc : ℕ)

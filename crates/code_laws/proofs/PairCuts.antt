@@ -98,7 +98,7 @@ two_named : (makes : Partition → Partition → Result Value) (u v : Value) (a 
     makes (partition_of u) (partition_of v) ≡ makes a b
 two_named makes u v a b first second = ap (λ y. makes (partition_of y) (partition_of v)) first ∙ ap (λ y. makes a (partition_of y)) second
 
-module _ (x : Setting) (params slots : ℕ) (fit : SlotsFit x slots) (aside : Aside) where
+module _ (x : Setting) (params slots : ℕ) (fit : SlotsFit x slots) {deep : ℕ} (aside : Aside deep) where
   -- ---- what a name has
 
   -- a partition, in the slot of the name, and the region of which it is

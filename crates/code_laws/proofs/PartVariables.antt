@@ -81,7 +81,7 @@ module _ (x : Setting) (params slots : ℕ) (fit : SlotsFit x slots) (counts : C
     under : IsUnderName h.scope.names s.names r d
     part : IsPartOf h.scope.names s.names p k d
 
-  piece : (aside : Aside) (h : Here) (q : Name) (e : Expression) (v : Value) (s : State) (j : Instance) →
+  piece : (aside : Aside 0) (h : Here) (q : Name) (e : Expression) (v : Value) (s : State) (j : Instance) →
       (part : BeginsAsPart x.forms.takes (where_of params h) (access_expr q (at_step e no_step)) (IsIndexed x.forms (where_of params h) (access_expr q (at_step e no_step)))) →
       (c : IsColoured h q e v s.names) → Agrees x params slots aside h s j →
       IsPiece h h.scope.next (parent_of (bound_to h.scope.names q).static_type) (bound_to h.scope.names q).number (colour_of h.scope e)
@@ -113,7 +113,7 @@ module _ (x : Setting) (params slots : ℕ) (fit : SlotsFit x slots) (counts : C
       }
 
   -- the part is left on the stack
-  piece_comes : (aside : Aside) (h : Here) (q : Name) (e : Expression) (s : State) (pc : ℕ) (i : Instance) → params ≤ length h.scope.names →
+  piece_comes : (aside : Aside 0) (h : Here) (q : Name) (e : Expression) (s : State) (pc : ℕ) (i : Instance) → params ≤ length h.scope.names →
       BeginsAsPart x.forms.takes (where_of params h) (access_expr q (at_step e no_step)) (IsIndexed x.forms (where_of params h) (access_expr q (at_step e no_step))) →
       Agrees x params slots aside h s i → Stands x.body pc (expr_code (where_of params h) 0 (access_expr q (at_step e no_step))) →
       Comes x (placed pc [] i) (valued (past (expr_code (where_of params h) 0 (access_expr q (at_step e no_step))) pc) [])
@@ -122,7 +122,7 @@ module _ (x : Setting) (params slots : ℕ) (fit : SlotsFit x slots) (counts : C
       (λ pc st. value_runs x params slots fit aside h 0 low e s pc [] i part.0.3.0 g st) part.0.3.1 g f
 
   -- and kept by a name of a region's type, which is its own
-  piece_kept : (aside : Aside) (h : Here) (n q : Name) (e : Expression) (said : Option TypeTerm) (s : State) (pc : ℕ) (i : Instance) → params ≤ length h.scope.names →
+  piece_kept : (aside : Aside 0) (h : Here) (n q : Name) (e : Expression) (said : Option TypeTerm) (s : State) (pc : ℕ) (i : Instance) → params ≤ length h.scope.names →
       (part : BeginsAsPart x.forms.takes (where_of params h) (access_expr q (at_step e no_step)) (IsIndexed x.forms (where_of params h) (access_expr q (at_step e no_step)))) →
       (j : Kind) (args : List Reach) →
       var_type h.tree h.scope said (Some (plain_initializer (access_expr q (at_step e no_step))))
@@ -165,7 +165,7 @@ module _ (x : Setting) (params slots : ℕ) (fit : SlotsFit x slots) (counts : C
       (no_part_goes _ j.contents (length s1.store) u (a_region d) (subst HasNoPart (sym type) (λ p c e. absurd cc))) k1.1 f2)))
 
   -- `var n = q[e]`
-  pub piece_begins : (aside : Aside) (h : Here) (n : Name) (e : Expression) (s : State) (pc : ℕ) (i : Instance) → params ≤ length h.scope.names →
+  pub piece_begins : (aside : Aside 0) (h : Here) (n : Name) (e : Expression) (s : State) (pc : ℕ) (i : Instance) → params ≤ length h.scope.names →
       BeginsAsPart x.forms.takes (where_of params h) e (IsIndexed x.forms (where_of params h) e) → Agrees x params slots aside h s i →
       Stands x.body pc (form_code (where_of params h) (var_form n None (Some (plain_initializer e)))) →
       Does x params slots aside (placed pc [] i) (past (form_code (where_of params h) (var_form n None (Some (plain_initializer e)))) pc)
@@ -179,7 +179,7 @@ module _ (x : Setting) (params slots : ℕ) (fit : SlotsFit x slots) (counts : C
   piece_begins aside h n _ s pc i low part g f = absurd part
 
   -- so where its type is written, which is like that of the part
-  piece_said : (aside : Aside) (h : Here) (n : Name) (t : TypeTerm) (e : Expression) (s : State) (pc : ℕ) (i : Instance) → params ≤ length h.scope.names →
+  piece_said : (aside : Aside 0) (h : Here) (n : Name) (t : TypeTerm) (e : Expression) (s : State) (pc : ℕ) (i : Instance) → params ≤ length h.scope.names →
       BeginsAsPart x.forms.takes (where_of params h) e (IsIndexed x.forms (where_of params h) e) →
       IsLike (var_type h.tree h.scope (Some t) (Some (plain_initializer e))) (initializer_type h.tree h.scope h.scope.next (plain_initializer e)) →
       Agrees x params slots aside h s i → Stands x.body pc (form_code (where_of params h) (var_form n (Some t) (Some (plain_initializer e)))) →
@@ -200,7 +200,7 @@ module _ (x : Setting) (params slots : ℕ) (fit : SlotsFit x slots) (counts : C
   piece_said aside h n t _ s pc i low part like g f = absurd part
 
   -- `var n = e`, of whatever e gives
-  pub plain_begins : (aside : Aside) (h : Here) (n : Name) (e : Expression) (s : State) (pc : ℕ) (i : Instance) → params ≤ length h.scope.names →
+  pub plain_begins : (aside : Aside 0) (h : Here) (n : Name) (e : Expression) (s : State) (pc : ℕ) (i : Instance) → params ≤ length h.scope.names →
       IsTypedForm x.forms (where_of params h) (var_form n None (Some (plain_initializer e))) → Agrees x params slots aside h s i →
       Stands x.body pc (form_code (where_of params h) (var_form n None (Some (plain_initializer e)))) →
       Does x params slots aside (placed pc [] i) (past (form_code (where_of params h) (var_form n None (Some (plain_initializer e)))) pc)
@@ -213,7 +213,7 @@ module _ (x : Setting) (params slots : ℕ) (fit : SlotsFit x slots) (counts : C
       (begun x.forms.keeps w e (IsKeepable x.forms.keeps w e × IsTyped x.forms w e) (BeginsAsPart x.forms.takes w e (IsIndexed x.forms w e)) fine)
 
   -- `var n : t = e`
-  pub said_begins : (aside : Aside) (h : Here) (n : Name) (t : TypeTerm) (e : Expression) (s : State) (pc : ℕ) (i : Instance) → params ≤ length h.scope.names →
+  pub said_begins : (aside : Aside 0) (h : Here) (n : Name) (t : TypeTerm) (e : Expression) (s : State) (pc : ℕ) (i : Instance) → params ≤ length h.scope.names →
       IsTypedForm x.forms (where_of params h) (var_form n (Some t) (Some (plain_initializer e))) → Agrees x params slots aside h s i →
       Stands x.body pc (form_code (where_of params h) (var_form n (Some t) (Some (plain_initializer e)))) →
       Does x params slots aside (placed pc [] i) (past (form_code (where_of params h) (var_form n (Some t) (Some (plain_initializer e)))) pc)

@@ -7,8 +7,10 @@ use Rattle.std.proofs.lemmas.Option.{none-some, same_Some, slice_get-get_or, sli
 use Rattle.plain_values.specs.Points.{has}
 use Rattle.point_sets.proofs.Rising.{Contains-from_has, has_get_or, within_each}
 use Rattle.partitions.specs.Laws.{ArePartsOf}
+use Rattle.check_laws.proofs.Scopes.{found_by_number}
+use Rattle.regent_tree.specs.declared.typing.Bound.{Bound}
 use Rattle.regent_tree.proofs.Laws.{expressions_keep_names}
-use Rattle.regent_tree.specs.Accesses.{standing, take_child, take_element}
+use Rattle.regent_tree.specs.Accesses.{space_in, standing, take_child, take_element}
 use Rattle.regent_tree.specs.Evaluation.{stepped, value}
 use Rattle.regent_tree.specs.Laws.{Leaves, SameNames}
 use Rattle.regent_tree.specs.Running.{Here, Result, State, and_then, fails, fault, given, gives, if_true}
@@ -36,10 +38,10 @@ use Rattle.memory_laws.specs.Places.{number_at}
 use Rattle.code_rules.specs.Expressions.{expr_code, steps_code}
 use Rattle.code_rules.specs.Instructions.{load_code, standing_code}
 use Rattle.code_rules.specs.Pieces.{op, past, ◌⨟◌}
-use Rattle.code_rules.specs.Slots.{own_slot, slot, typed}
+use Rattle.code_rules.specs.Slots.{Where, bound, own_slot, slot, typed}
 use Rattle.code_laws.specs.Arguments.{IsCutName}
 pub use Rattle.code_laws.specs.Coloured.{part_at_colour, point_of}
-use Rattle.code_laws.specs.Pointers.{IsCounting, IsCut, IsPointed}
+use Rattle.code_laws.specs.Pointers.{IsCounting, IsCut, IsOfPart, IsPointed}
 use Rattle.code_laws.specs.Simple.{IsNumber, IsPartition, a_partition_type, number_index, number_integer}
 use Rattle.code_laws.specs.Standing.{Agrees, Aside, Comes, IsInside, IsOf, LiesIn, SlotsFit, Stands, nothing, of_index, of_integer, of_partition, where_of}
 use Rattle.code_laws.specs.Steps.{Setting, machine_of, on_step, placed}
@@ -107,7 +109,7 @@ pub record IsColoured (h : Here) (n : Name) (e : Expression) (v : Value) (names 
   pub is : v ≡ a_region (part_at_colour partition colour)
   pub seen : (y : ℤ) → colour_seen h e names ≡ Some y → y ≡ pos colour
 
-module _ (x : Setting) (params slots : ℕ) (fit : SlotsFit x slots) (aside : Aside) where
+module _ (x : Setting) (params slots : ℕ) (fit : SlotsFit x slots) {deep : ℕ} (aside : Aside deep) where
   abbrev pub GoodPart : Here → Name → Expression → Value → State → Instance → Type 0
   GoodPart h n e v s j = IsColoured h n e v s.names × Agrees x params slots aside h s j
 
@@ -176,7 +178,7 @@ module _ (x : Setting) (params slots : ℕ) (fit : SlotsFit x slots) (aside : As
               ∙ ap (λ t. IsOver (Broke (Some (record { kind = BadColor; line = h.line })) t)) g.text)
 
   -- `p[e]`, by the type of p
-  steps_run : (h : Here) (d : ℕ) (t : StaticType) (p : ℕ) (v : Value) (n : Name) (e : Expression) (s : State) (pc : ℕ) (st : List MachineValue)
+  pub steps_run : (h : Here) (d : ℕ) (t : StaticType) (p : ℕ) (v : Value) (n : Name) (e : Expression) (s : State) (pc : ℕ) (st : List MachineValue)
       (i : Instance) → IsPartition t → IsOf t v → get_or s.names p nothing ≡ v → (bound_to h.scope.names n).place ≡ p → p < length s.names →
       ((pc : ℕ) → Stands x.body pc (expr_code (where_of params h) d e) →
       Gives x params slots fit aside h (typed (where_of params h) e) (expr_code (where_of params h) d e) pc st st i (value h e s)) →
@@ -262,3 +264,21 @@ part_lies_in code store sp parent q c root parts low l = record {
         (Contains-from_has parent.points y (part_within parent.points q.sets c y parts low (has_get_or (get_or q.sets c []) k under))));
   };
 }
+
+-- a part lies within the region of which its partition is
+pub part_of_name : (w : Where) (names : List Value) (n : Name) (q : Partition) (c : ℕ) → IsCutName w n → c < length q.sets →
+    IsCut w.scope.names names (parent_of (bound w n).static_type) q →
+    IsOfPart w.scope.names (bound_as w.scope.names (bound w n).number) (length w.scope.names) names
+    (space_in (bound_as w.scope.names (parent_of (bound w n).static_type)).static_type) (bound w n).number (part_at_colour q c)
+part_of_name w names n q c cut low is =
+    subst (λ (b : Bound). IsOfPart w.scope.names b (length w.scope.names) names
+    (space_in (bound_as w.scope.names (parent_of (bound w n).static_type)).static_type) (bound w n).number (part_at_colour q c))
+    (sym (found_by_number w.scope.next w.scope.names n cut.numbers cut.named).0)
+    (record {
+      numbered = refl;
+      partition = cut.partition;
+      parent = is.parent;
+      is = is.is;
+      root = is.root;
+      within = λ k e. part_within is.parent.points q.sets c k is.sets low e;
+    })

@@ -31,7 +31,7 @@ pub passed_inside : (x : Setting) (store : Store) (t u p : StaticType) (v : Valu
 passed_inside x store t _ _ v (passes_plain _ u goes) o = simple_inside x store u v (into_simple t u goes)
 passed_inside x store _ _ _ _ (passes_pointer _ k sp args brgs rs qs n e) (of_pointer _ _ _ _ tg regions o) = tt
 
-module _ (x : Setting) (params slots : ℕ) (fit : SlotsFit x slots) (aside : Aside) where
+module _ (x : Setting) (params slots : ℕ) (fit : SlotsFit x slots) {deep : ℕ} (aside : Aside deep) where
   pub passed_runs : (h : Here) (t u p : StaticType) (v : Value) (s : State) (pc : ℕ) (st : List MachineValue) (i : Instance) → Passes t u p → IsOf t v →
       Agrees x params slots aside h s i → Stands x.body pc (converted_code (where_of params h) t u) →
       Comes x (valued pc st v i) (valued (past (converted_code (where_of params h) t u) pc) st)

@@ -98,7 +98,10 @@ pointing_part forms w (access_expr n (field_step _ (at_step _ _))) fine at = abs
 pointing_part forms w (access_expr n (at_step e (field_step f (field_step g rest)))) fine at =
     inl (there_no_part w.scope.names _ (typed w (access_expr n (at_step e (field_step f (field_step g rest))))) at)
 pointing_part forms w (access_expr n (at_step _ (field_step _ (at_step _ _)))) fine at = absurd at
-pointing_part forms w (access_expr n (at_step _ (at_step _ _))) fine at = absurd at
+pointing_part forms w (access_expr n (at_step e (at_step i (field_step f rest)))) fine at =
+    inl (there_no_part w.scope.names _ (typed w (access_expr n (at_step e (at_step i (field_step f rest))))) at)
+pointing_part forms w (access_expr n (at_step _ (at_step _ no_step))) fine at = absurd at
+pointing_part forms w (access_expr n (at_step _ (at_step _ (at_step _ _)))) fine at = absurd at
 pointing_part forms w (number_expr _ _) fine at = absurd at
 pointing_part forms w (truth_expr _) fine at = absurd at
 pointing_part forms w (chain_expr _ _) fine at = absurd at
@@ -127,11 +130,11 @@ module _ (x : Setting) (params slots : ℕ) (fit : SlotsFit x slots) (counts : C
   -- ---- variables
 
   -- what begins a statement
-  abbrev FormDoes : ℕ → Aside → Here → Form → State → ℕ → Instance → Type 0
+  abbrev FormDoes : ℕ → Aside 0 → Here → Form → State → ℕ → Instance → Type 0
   FormDoes to aside h form s pc i = Does x params slots aside (placed pc [] i) to (after_statement h form) (exec h form s)
 
   -- `var n = e`, where e gives a pointer that goes into no part
-  pointer_begins : (aside : Aside) (h : Here) (n : Name) (e : Expression) (s : State) (pc : ℕ) (i : Instance) → params ≤ length h.scope.names →
+  pointer_begins : (aside : Aside 0) (h : Here) (n : Name) (e : Expression) (s : State) (pc : ℕ) (i : Instance) → params ≤ length h.scope.names →
       IsPointer (typed (where_of params h) e) → HasNoPart (typed (where_of params h) e) → IsPointing (where_of params h) e → IsTyped x.forms (where_of params h) e →
       Agrees x params slots aside h s i →
       Stands x.body pc (form_code (where_of params h) (var_form n None (Some (plain_initializer e)))) →
@@ -159,7 +162,7 @@ module _ (x : Setting) (params slots : ℕ) (fit : SlotsFit x slots) (counts : C
       (no_part_goes _ j.contents (length s1.store) (owned h.scope.next t) v (subst HasNoPart own none)) k1.1 f2))
 
   -- `var n = m`, of a pointer that goes into no part
-  other_begins : (aside : Aside) (h : Here) (n m : Name) (s : State) (pc : ℕ) (i : Instance) → params ≤ length h.scope.names →
+  other_begins : (aside : Aside 0) (h : Here) (n m : Name) (s : State) (pc : ℕ) (i : Instance) → params ≤ length h.scope.names →
       is_bound h.scope.names m ≡ true → Falls h.scope.next h.scope.names → (t : StaticType) → (bound_to h.scope.names m).static_type ≡ t → IsPointer t → HasNoPart t →
       IsTyped x.forms (where_of params h) (access_expr m no_step) → Agrees x params slots aside h s i →
       Stands x.body pc (form_code (where_of params h) (var_form n None (Some (plain_initializer (access_expr m no_step))))) →
@@ -169,7 +172,7 @@ module _ (x : Setting) (params slots : ℕ) (fit : SlotsFit x slots) (counts : C
       pointer_begins aside h n (access_expr m no_step) s pc i low (subst IsPointer (sym is) p) (subst HasNoPart (sym is) none) falls fine g f
 
   -- `var n = m`, where m has a pointer into a part: the part is copied, too
-  part_begins : (aside : Aside) (h : Here) (n m : Name) (s : State) (pc : ℕ) (i : Instance) → params ≤ length h.scope.names →
+  part_begins : (aside : Aside 0) (h : Here) (n m : Name) (s : State) (pc : ℕ) (i : Instance) → params ≤ length h.scope.names →
       is_bound h.scope.names m ≡ true → Falls h.scope.next h.scope.names → (k : Kind) (sp : ℕ) (args : List Reach) (p : ℕ) (c : Colour) →
       (bound_to h.scope.names m).static_type ≡ pointer_type k sp args (Some (term.Child p c) ∷ []) → Agrees x params slots aside h s i →
       Stands x.body pc (form_code (where_of params h) (var_form n None (Some (plain_initializer (access_expr m no_step))))) →
@@ -219,7 +222,7 @@ module _ (x : Setting) (params slots : ℕ) (fit : SlotsFit x slots) (counts : C
       (only_one q d (sym near.1 ∙ to.regions)) (get_or-set_same i.frame.slots l rv blank room, was.2)) g2 f2))
 
   -- so by the type
-  name_begins : (aside : Aside) (h : Here) (n m : Name) (s : State) (pc : ℕ) (i : Instance) → params ≤ length h.scope.names →
+  name_begins : (aside : Aside 0) (h : Here) (n m : Name) (s : State) (pc : ℕ) (i : Instance) → params ≤ length h.scope.names →
       is_bound h.scope.names m ≡ true → Falls h.scope.next h.scope.names → (t : StaticType) → (bound_to h.scope.names m).static_type ≡ t → IsPointer t →
       IsTyped x.forms (where_of params h) (access_expr m no_step) → Agrees x params slots aside h s i →
       Stands x.body pc (form_code (where_of params h) (var_form n None (Some (plain_initializer (access_expr m no_step))))) →
@@ -236,7 +239,7 @@ module _ (x : Setting) (params slots : ℕ) (fit : SlotsFit x slots) (counts : C
       other_begins aside h n m s pc i low there falls _ is (a_pointer_type k sp args (None ∷ rs) names) (λ p c e. absurd cc) fine g f
 
   -- `var n = e`
-  pub begins_run : (aside : Aside) (h : Here) (n : Name) (e : Expression) (s : State) (pc : ℕ) (i : Instance) →
+  pub begins_run : (aside : Aside 0) (h : Here) (n : Name) (e : Expression) (s : State) (pc : ℕ) (i : Instance) →
       params ≤ length h.scope.names → IsSimple (typed (where_of params h) e) ⊎ (IsPointer (typed (where_of params h) e) × IsPointing (where_of params h) e) →
       IsTyped x.forms (where_of params h) e → Agrees x params slots aside h s i →
       Stands x.body pc (form_code (where_of params h) (var_form n None (Some (plain_initializer e)))) →
@@ -275,7 +278,7 @@ module _ (x : Setting) (params slots : ℕ) (fit : SlotsFit x slots) (counts : C
       (expr_code w 0 e ⨟ converted_code w (typed w e) (var_type h.tree h.scope (Some t) (Some (plain_initializer e))))
       ⨟ one w (instr.Store (slot w (new_place w)))
 
-  converted_begins : (aside : Aside) (h : Here) (n : Name) (t : TypeTerm) (e : Expression) (s : State) (pc : ℕ) (i : Instance) →
+  converted_begins : (aside : Aside 0) (h : Here) (n : Name) (t : TypeTerm) (e : Expression) (s : State) (pc : ℕ) (i : Instance) →
       params ≤ length h.scope.names →
       Begins h.scope.names (typed (where_of params h) e) (var_type h.tree h.scope (Some t) (Some (plain_initializer e))) →
       IsTyped x.forms (where_of params h) e → Agrees x params slots aside h s i → Stands x.body pc (ConvertedCode h t e) →
@@ -315,7 +318,7 @@ module _ (x : Setting) (params slots : ℕ) (fit : SlotsFit x slots) (counts : C
       (no_part_goes _ j.contents (length s1.store) u v (written_no_part h.scope.names u wr)) k.1 f.1)
 
   -- `var n : t = e`
-  pub declares_run : (aside : Aside) (h : Here) (n : Name) (t : TypeTerm) (e : Expression) (s : State) (pc : ℕ) (i : Instance) →
+  pub declares_run : (aside : Aside 0) (h : Here) (n : Name) (t : TypeTerm) (e : Expression) (s : State) (pc : ℕ) (i : Instance) →
       params ≤ length h.scope.names →
       Begins h.scope.names (typed (where_of params h) e) (var_type h.tree h.scope (Some t) (Some (plain_initializer e))) →
       IsTyped x.forms (where_of params h) e → Agrees x params slots aside h s i →
@@ -330,7 +333,7 @@ module _ (x : Setting) (params slots : ℕ) (fit : SlotsFit x slots) (counts : C
       (converted_begins aside h n t e s pc i low begins fine g (subst (λ (c : Piece). Stands x.body pc (c ⨟ store)) same f))
 
   -- null
-  null_value : (aside : Aside) (h : Here) (t : StaticType) (s : State) (pc : ℕ) (i : Instance) → IsPointer t →
+  null_value : (aside : Aside 0) (h : Here) (t : StaticType) (s : State) (pc : ℕ) (i : Instance) → IsPointer t →
       Agrees x params slots aside h s i → Stands x.body pc (op (instr.Num (zero_kept t)) h.line) →
       Gives x params slots fit aside h t (op (instr.Num (zero_kept t)) h.line) pc [] [] i (gives (zero_of h.scope s.names t) s)
   null_value aside h _ s pc i (a_pointer_type k sp args rs names) g f =
@@ -346,7 +349,7 @@ module _ (x : Setting) (params slots : ℕ) (fit : SlotsFit x slots) (counts : C
       by _ (a_pointer_type k sp args rs names) there = there_reached h.scope s.names sp rs o long there
 
   -- `var n : t`
-  pub itself_run : (aside : Aside) (h : Here) (n : Name) (t : TypeTerm) (s : State) (pc : ℕ) (i : Instance) → params ≤ length h.scope.names →
+  pub itself_run : (aside : Aside 0) (h : Here) (n : Name) (t : TypeTerm) (s : State) (pc : ℕ) (i : Instance) → params ≤ length h.scope.names →
       BeginsItself h.scope.names (var_type h.tree h.scope (Some t) None) → Agrees x params slots aside h s i →
       Stands x.body pc (form_code (where_of params h) (var_form n (Some t) None)) →
       FormDoes (past (form_code (where_of params h) (var_form n (Some t) None)) pc) aside h (var_form n (Some t) None) s pc i

@@ -101,7 +101,7 @@ first_target i (q ∷ qs) z small = chosen (holds q.points z) refl (first_target
     chosen true e more = (by_sign z e, omega arith)
     chosen false e more = wider (first_holding (suc i) qs z) (suc i + length qs) (i + length (q ∷ qs)) (omega arith) more
 
-module _ (x : Setting) (params slots : ℕ) (fit : SlotsFit x slots) (aside : Aside) where
+module _ (x : Setting) (params slots : ℕ) (fit : SlotsFit x slots) {deep : ℕ} (aside : Aside deep) where
   -- each slot has its region, so the machine finds all
   regions_there : (h : Here) (k : Kind) (own sp : ℕ) (args rs : List Reach) (qs : List Region) (s : State) (j : Instance) → AreNames rs → has_wild rs ≡ false →
       AreReached h.scope.names s.names sp rs qs → Agrees x params slots aside h s j →
@@ -218,7 +218,7 @@ module _ (x : Setting) (params slots : ℕ) (fit : SlotsFit x slots) (aside : As
 
   -- ---- an element as a pointer
 
-  without_given : (shape : Value → Instance → Instance) (P : Value → State → Instance → Type 0) (i : Instance) (r : Result Value) →
+  pub without_given : (shape : Value → Instance → Instance) (P : Value → State → Instance → Type 0) (i : Instance) (r : Result Value) →
       Comes x i shape P (and_then r (λ v. given v)) → Comes x i shape P r
   without_given shape P i (gives v s) c = c
   without_given shape P i (fails f s) c = c
@@ -246,8 +246,8 @@ module _ (x : Setting) (params slots : ℕ) (fit : SlotsFit x slots) (aside : As
       without_given shape (Good x params slots fit aside h pt) _ (stepped h t (a_region q) (at_step e no_step) s)
       (element_points x params slots fit aside _ (comes_said x shape (Good x params slots fit aside h pt)) h d t sl e q s pc st i (λ v. given v)
       (a_region_type k sp args r) (runs pc stands.1.0) index same
-      (λ s1 j names g. region_there x params slots fit aside h s1 j p q (ap (λ ns. get_or ns p nothing) names ∙ is)
+      (λ s1 j names more g. region_there x params slots fit aside h s1 j p q (ap (λ ns. get_or ns p nothing) names ∙ is)
       (subst (λ ns. p < length ns) (sym names) low) room g) stands.1
-      (λ n s1 j names b g.
+      (λ n s1 j names b there g.
       let lie = subst (IsInside x s1.store t) (ap (λ ns. get_or ns p nothing) names ∙ is) (lies s1 j g) in
       (j, leads_none x _, (of_pointer k sp args (Some r ∷ []) (point_target n 1) (q ∷ []) (lie.0.small n b, omega arith), g))))

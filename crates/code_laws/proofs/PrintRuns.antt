@@ -33,7 +33,7 @@ use Rattle.code_laws.proofs.Runs.{comes_said, leads_by, leads_none, then}
 number_value : (c : Contents) (t : StaticType) (v : Value) → IsInteger t → IsOf t v → machine_value c v ≡ machine.Number (number_of v)
 number_value c _ _ (an_integer w) (of_integer _ z _) = refl
 
-module _ (x : Setting) (params slots : ℕ) (fit : SlotsFit x slots) (aside : Aside) where
+module _ (x : Setting) (params slots : ℕ) (fit : SlotsFit x slots) (aside : Aside 0) where
   -- so many values, each a number
   abbrev pub AreGood : Here → ℕ → List Value → State → Instance → Type 0
   AreGood h n vs s j = (map (machine_value no_contents) vs ≡ map machine.Number (map number_of vs)) × (length vs ≡ n)
@@ -86,6 +86,7 @@ module _ (x : Setting) (params slots : ℕ) (fit : SlotsFit x slots) (aside : As
         record {
           names = g.names;
           hidden = g.hidden;
+          held = g.held;
           typed = g.typed;
           inside_store = g.inside_store;
           pointed = g.pointed;

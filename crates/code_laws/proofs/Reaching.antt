@@ -106,13 +106,14 @@ all_inside x store after (b ∷ bs) names same a l = (
 )
 
 -- other numbers in the same roots, and other parts
-pub rewritten : (x : Setting) (params slots : ℕ) (aside : Aside) (h : Here) (s : State) (i : Instance) (ps : List Part)
+pub rewritten : (x : Setting) (params slots : ℕ) {deep : ℕ} (aside : Aside deep) (h : Here) (s : State) (i : Instance) (ps : List Part)
     (ts : List Touch) (store : Store) → SameRoots s.store store → KeepsNumbers h.tree store → Agrees x params slots aside h s i →
     Holds x.code store (memory_of (parted ps i)) →
     Agrees x params slots aside h (record s { store = store; touches = ts }) (parted ps i)
 rewritten x params slots aside h s i ps ts store same kept g holds = record {
   names = g.names;
   hidden = g.hidden;
+  held = g.held;
   typed = g.typed;
   inside_store = all_inside x s.store store h.scope.names s.names same g.typed g.inside_store;
   pointed = g.pointed;
@@ -145,7 +146,7 @@ rewritten x params slots aside h s i ps ts store same kept g holds = record {
 }
 
 -- the store that an instance agrees with keeps numbers of its fields' types
-pub kept_here : (x : Setting) (params slots : ℕ) (aside : Aside) (h : Here) (s : State) (i : Instance) → Agrees x params slots aside h s i →
+pub kept_here : (x : Setting) (params slots : ℕ) {deep : ℕ} (aside : Aside deep) (h : Here) (s : State) (i : Instance) → Agrees x params slots aside h s i →
     KeepsNumbers h.tree s.store
 kept_here x params slots aside h s i g = subst (λ t. KeepsNumbers t s.store) (sym g.tree_is) g.framed.kept
 
@@ -229,7 +230,7 @@ pub region_covered : (x : Setting) (store : Store) (m : Memory) (own : List Root
 region_covered x store m own _ q place n a (a_region_type k sp args r) l may framed e low =
     touch_covered x store m own r q place n a x.forms.takes refl l.1 may framed e (l.0.points place n low e)
 
-pub reached : (x : Setting) (params slots : ℕ) (aside : Aside) (h : Here) (s : State) (i : Instance) (q : Region)
+pub reached : (x : Setting) (params slots : ℕ) {deep : ℕ} (aside : Aside deep) (h : Here) (s : State) (i : Instance) (q : Region)
     (t : StaticType) → IsRegion t → (place n : ℕ) (a : Mode) → Agrees x params slots aside h s i →
     IsInside x s.store t (a_region q) → MayDo x.forms.takes (term_in t) place a →
     place < length (space_at h.tree (space_in t)).fields → has q.points n ≡ true →

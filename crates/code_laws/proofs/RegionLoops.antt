@@ -90,7 +90,7 @@ module _ (x : Setting) (params slots : ℕ) (fit : SlotsFit x slots) (counts : C
       ∙ ap (λ k. Some k) (get_or-append_seam done n left 0)
 
   -- from a point on
-  over_points : (left done : List ℕ) (q : Region) (aside : Aside) (h h2 : Here) (name : Name) (kind : Kind) (sp : ℕ) (args : List Reach)
+  over_points : (left done : List ℕ) (q : Region) (aside : Aside 0) (h h2 : Here) (name : Name) (kind : Kind) (sp : ℕ) (args : List Reach)
       (r : Reach) (body : Run Going) (code : Piece)
       (s : State) (pc : ℕ) (i : Instance) (ri : ℕ) → number_at i.contents q.root ≡ ri → q.root < length s.store → q.points ≡ done ++ left → ((n : ℕ) → has q.points n ≡ true → n < 2 ^ 32) →
       ((n : ℕ) → has left n ≡ true → has q.points n ≡ true) → params ≤ length h.scope.names →
@@ -101,7 +101,7 @@ module _ (x : Setting) (params slots : ℕ) (fit : SlotsFit x slots) (counts : C
       Stands x.body pc (rounds (instr.NextPoint (beside (where_of params h) (length h.scope.names))
       (counter (where_of params h) (length h.scope.names)) (slot (where_of params h) (length h.scope.names)) true) h.line code) →
       Grown h.scope.names h2.scope.names → program_of h2 ≡ program_of h →
-      ((aside2 : Aside) (s1 : State) (j : Instance) →
+      ((aside2 : Aside 0) (s1 : State) (j : Instance) →
       Agrees x params slots aside2 (looping h name (pointer_type kind sp args (r ∷ []))) s1 j →
       Does x params slots aside2 (placed (suc pc) [] j) (past code (suc pc)) h2 (body s1)) →
       Does x params slots aside (placed pc [] i) (suc (past code (suc pc))) h (rounds_over h (pointers_to q left) body s)
@@ -162,7 +162,7 @@ module _ (x : Setting) (params slots : ℕ) (fit : SlotsFit x slots) (counts : C
       (e3 ∙ ap (λ z. Some (machine.Number z)) next_is) f3 f grown same more)
 
   -- a loop over the region that stands on the stack
-  pub regions_run : (aside : Aside) (h h2 : Here) (name : Name) (kind : Kind) (sp : ℕ) (args : List Reach) (r : Reach) (q : Region)
+  pub regions_run : (aside : Aside 0) (h h2 : Here) (name : Name) (kind : Kind) (sp : ℕ) (args : List Reach) (r : Reach) (q : Region)
       (body : Run Going) (code : Piece) (s : State) (pc : ℕ) (i : Instance) → ((n : ℕ) → has q.points n ≡ true → n < 2 ^ 32) → q.root < length s.store →
       params ≤ length h.scope.names →
       AreReached h.scope.names s.names sp (r ∷ []) (q ∷ []) →
@@ -173,7 +173,7 @@ module _ (x : Setting) (params slots : ℕ) (fit : SlotsFit x slots) (counts : C
       Stands x.body (suc (suc (suc pc))) (rounds (instr.NextPoint (beside (where_of params h) (length h.scope.names))
       (counter (where_of params h) (length h.scope.names)) (slot (where_of params h) (length h.scope.names)) true) h.line code) →
       Grown h.scope.names h2.scope.names → program_of h2 ≡ program_of h →
-      ((aside2 : Aside) (s1 : State) (j : Instance) →
+      ((aside2 : Aside 0) (s1 : State) (j : Instance) →
       Agrees x params slots aside2 (looping h name (pointer_type kind sp args (r ∷ []))) s1 j →
       Does x params slots aside2 (placed (suc (suc (suc (suc pc)))) [] j) (past code (suc (suc (suc (suc pc))))) h2 (body s1)) →
       Does x params slots aside (valued pc [] (a_region q) i) (suc (past code (suc (suc (suc (suc pc)))))) h

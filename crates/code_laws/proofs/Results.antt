@@ -49,12 +49,12 @@ kept_value c _ _ (zero_scalar _ (scalar_integer w)) (of_integer _ z p) = refl
 kept_value c _ _ (zero_scalar _ scalar_truth) (of_truth b) = refl
 kept_value c _ _ (zero_index k) (of_index _ z p) = refl
 
-module _ (x : Setting) (params slots : ℕ) (fit : SlotsFit x slots) (aside : Aside) where
+module _ (x : Setting) (params slots : ℕ) (fit : SlotsFit x slots) {deep : ℕ} (aside : Aside deep) where
   -- a spare slot is behind those of all names
   pub spare_stored : (h : Here) (s : State) (i : Instance) (d : ℕ) (v : MachineValue) →
-      params ≤ length h.scope.names → is_pending v ≡ false → Agrees x params slots aside h s i →
+      params ≤ length h.scope.names → deep ≤ d → is_pending v ≡ false → Agrees x params slots aside h s i →
       Agrees x params slots aside h s (stored (spare (where_of params h) d) v i)
-  spare_stored h s i d v low quiet g =
+  spare_stored h s i d v low within quiet g =
       let w = where_of params h in
       let k = spare w d in
       let xs = i.frame.slots in
@@ -64,6 +64,7 @@ module _ (x : Setting) (params slots : ℕ) (fit : SlotsFit x slots) (aside : As
           get_or-set_other xs k (counter w p) v blank (λ q. omega (arith, q, a, b, g.inside, g.count, low)) ∙ (g.hidden p a b).0,
           get_or-set_other xs k (beside w p) v blank (λ q. omega (arith, q, a, b, g.inside, g.count, low)) ∙ (g.hidden p a b).1,
         );
+        held = λ p l. get_or-set_other xs k (spare w p) v blank (λ q. omega (arith, q, l, within)) ∙ g.held p l;
         typed = g.typed;
         inside_store = g.inside_store;
         pointed = g.pointed;
@@ -90,14 +91,14 @@ module _ (x : Setting) (params slots : ℕ) (fit : SlotsFit x slots) (aside : As
 
   -- from the pending child to its value
   pub results_run : (h : Here) (t : StaticType) (d n : ℕ) (v : Value) (s : State) (pc line : ℕ)
-      (st : List MachineValue) (j : Instance) → params ≤ length h.scope.names →
+      (st : List MachineValue) (j : Instance) → params ≤ length h.scope.names → deep ≤ d →
       HasZero t → IsOf t v → Agrees x params slots aside h s j → get_or j.results n (pos 0) ≡ kept_number v →
       Stands x.body pc (op (instr.Store (spare (where_of params h) d)) line) →
       Stands x.body (suc pc) (op (instr.Load (spare (where_of params h) d)) line) →
       Leads x (placed pc (machine.Pending n ∷ st) j)
       (placed (suc (suc pc)) (machine_value j.contents v ∷ st) (stored (spare (where_of params h) d) (machine_value j.contents v) j))
       × Agrees x params slots aside h s (stored (spare (where_of params h) d) (machine_value j.contents v) j)
-  results_run h t d n v s pc line st j low plain o g value f f2 =
+  results_run h t d n v s pc line st j low within plain o g value f f2 =
       let k = spare (where_of params h) d in
       let xs = j.frame.slots in
       let z = get_or j.results n (pos 0) in
@@ -123,5 +124,5 @@ module _ (x : Setting) (params slots : ℕ) (fit : SlotsFit x slots) (aside : As
             (leads_by x (placed (suc pc) st j2) (placed (suc (suc pc)) (put ∷ st) j2) (instr.Load k) line f2
             (ap (λ u. on_step x (placed (suc pc) st j2) (load (machine_of (placed (suc pc) st j2)) u)) now
             ∙ ap (on_step x (placed (suc pc) st j2)) (load_value j.contents v (machine_of (placed (suc pc) st j2)))))),
-        spare_stored h s j d put low (ready_value j.contents v) g,
+        spare_stored h s j d put low within (ready_value j.contents v) g,
       )

@@ -110,11 +110,12 @@ three_least a b c n l =
 abbrev pub IsAlike : Here → Here → Type 0
 IsAlike h h2 = (h.scope.names ≡ h2.scope.names) × (program_of h2 ≡ program_of h)
 
-pub same_scope : (x : Setting) (params slots : ℕ) (aside : Aside) (h h2 : Here) (s : State) (i : Instance) →
+pub same_scope : (x : Setting) (params slots : ℕ) (aside : Aside 0) (h h2 : Here) (s : State) (i : Instance) →
     IsAlike h h2 → Agrees x params slots aside h s i → Agrees x params slots aside h2 s i
 same_scope x params slots aside h h2 s i e g = record {
   names = g.names;
   hidden = g.hidden;
+  held = λ k l. absurd (omega (arith, l));
   typed = subst (λ bs. AreOf IsOf bs s.names) e.0 g.typed;
   inside_store = subst (λ bs. AreOf (IsInside x s.store) bs s.names) e.0 g.inside_store;
   pointed = subst (ArePointed params s.names) e.0 g.pointed;
@@ -140,20 +141,20 @@ same_scope x params slots aside h h2 s i e g = record {
 module _ (x : Setting) (params slots : ℕ) (fit : SlotsFit x slots) (counts : CountsDown) where
   -- ---- what is done, in a row
 
-  pub does_before : (aside : Aside) (pc : ℕ) (h : Here) (i j : Instance) (r : Result Going) → Leads x i j →
+  pub does_before : (aside : Aside 0) (pc : ℕ) (h : Here) (i j : Instance) (r : Result Going) → Leads x i j →
       Does x params slots aside j pc h r → Does x params slots aside i pc h r
   does_before aside pc h i j (gives goes_on s) l d = (d.0, leads_twice x l d.1, d.2)
   does_before aside pc h i j (gives (returned v) s) l d = (d.0, d.1, leads_end x l d.2, d.3, d.4, d.5, d.6, d.7)
   does_before aside pc h i j (fails f s) l d = leads_end x l d
 
-  pub does_said : (aside : Aside) (pc : ℕ) (h : Here) → Said x (λ i r. Does x params slots aside i pc h r)
+  pub does_said : (aside : Aside 0) (pc : ℕ) (h : Here) → Said x (λ i r. Does x params slots aside i pc h r)
   does_said aside pc h = record {
     before = λ i j r l d. does_before aside pc h i j r l d;
     failing = λ i f s e. e;
   }
 
   -- another statement behind one that goes on
-  pub then_going : (aside aside2 : Aside) (pc pc2 : ℕ) (h h2 : Here) (i : Instance) (r : Result Going)
+  pub then_going : (aside aside2 : Aside 0) (pc pc2 : ℕ) (h h2 : Here) (i : Instance) (r : Result Going)
       (rest : Run Going) → Does x params slots aside i pc h r →
       ((s : State) (j : Instance) → Agrees x params slots aside h s j →
       Does x params slots aside2 (placed pc [] j) pc2 h2 (rest s)) →
@@ -164,7 +165,7 @@ module _ (x : Setting) (params slots : ℕ) (fit : SlotsFit x slots) (counts : C
   then_going aside aside2 pc pc2 h h2 i (fails f s) rest d more = d
 
   -- a jump behind a statement
-  pub then_leads : (aside : Aside) (pc pc2 : ℕ) (h : Here) (i : Instance) (r : Result Going) →
+  pub then_leads : (aside : Aside 0) (pc pc2 : ℕ) (h : Here) (i : Instance) (r : Result Going) →
       Does x params slots aside i pc h r →
       ((j : Instance) → Leads x (placed pc [] j) (placed pc2 [] j)) →
       Does x params slots aside i pc2 h r
@@ -173,7 +174,7 @@ module _ (x : Setting) (params slots : ℕ) (fit : SlotsFit x slots) (counts : C
   then_leads aside pc pc2 h i (fails f s) d l = d
 
   -- another scope with the same names
-  pub does_as : (aside : Aside) (pc : ℕ) (h h2 : Here) (i : Instance) (r : Result Going) →
+  pub does_as : (aside : Aside 0) (pc : ℕ) (h h2 : Here) (i : Instance) (r : Result Going) →
       IsAlike h h2 → Does x params slots aside i pc h r →
       Does x params slots aside i pc h2 r
   does_as aside pc h h2 i (gives goes_on s) e d =
@@ -182,7 +183,7 @@ module _ (x : Setting) (params slots : ℕ) (fit : SlotsFit x slots) (counts : C
   does_as aside pc h h2 i (fails f s) e d = d
 
   -- a block leaves its names
-  pub does_cut : (aside : Aside) (pc n : ℕ) (h h2 : Here) (i : Instance) (r : Result Going) →
+  pub does_cut : (aside : Aside 0) (pc n : ℕ) (h h2 : Here) (i : Instance) (r : Result Going) →
       params ≤ length h.scope.names → Grown h.scope.names h2.scope.names → program_of h2 ≡ program_of h → n ≡ length h.scope.names → aside.upto ≤ n →
       Does x params slots aside i pc h2 r → Does x params slots aside i pc h (leaving n r)
   does_cut aside pc n h h2 i (gives goes_on s) low w tree e up d =
@@ -227,11 +228,12 @@ module _ (x : Setting) (params slots : ℕ) (fit : SlotsFit x slots) (counts : C
   fewer_turns n i = record i { frame = record i.frame { turns = n } }
 
   -- what agrees still does with fewer turns
-  pub fewer : (n : ℕ) (aside : Aside) (h : Here) (s : State) (i : Instance) → n ≤ s.turns →
+  pub fewer : (n : ℕ) (aside : Aside 0) (h : Here) (s : State) (i : Instance) → n ≤ s.turns →
       Agrees x params slots aside h s i → Agrees x params slots aside h (record s { turns = n }) (fewer_turns n i)
   fewer n aside h s i l g = record {
     names = g.names;
     hidden = g.hidden;
+    held = g.held;
     typed = g.typed;
     inside_store = g.inside_store;
     pointed = g.pointed;
@@ -254,11 +256,12 @@ module _ (x : Setting) (params slots : ℕ) (fit : SlotsFit x slots) (counts : C
     framed = g.framed;
   }
 
-  pub relimit : (aside : Aside) (k : ℕ) (h : Here) (s : State) (i : Instance) → s.turns ≤ k →
+  pub relimit : (aside : Aside 0) (k : ℕ) (h : Here) (s : State) (i : Instance) → s.turns ≤ k →
       Agrees x params slots aside h s i → Agrees x params slots (record aside { turns = k }) h s i
   relimit aside k h s i l g = record {
     names = g.names;
     hidden = g.hidden;
+    held = g.held;
     typed = g.typed;
     inside_store = g.inside_store;
     pointed = g.pointed;
@@ -282,7 +285,7 @@ module _ (x : Setting) (params slots : ℕ) (fit : SlotsFit x slots) (counts : C
   }
 
   -- a turn is paid, or there is none
-  pub pays_from : (n : ℕ) (aside : Aside) (pc pc2 : ℕ) (h h2 : Here) (s : State) (i : Instance)
+  pub pays_from : (n : ℕ) (aside : Aside 0) (pc pc2 : ℕ) (h h2 : Here) (s : State) (i : Instance)
       (T : Instance → Result Going → Type 0) → Said x T → (K : Unit {0} → Run Going) →
       Agrees x params slots aside h s i → s.turns ≡ n → Stands x.body pc (op instr.Turn h.line) →
       ((s2 : State) (j : Instance) → suc s2.turns ≡ s.turns → Agrees x params slots aside h s2 j →
@@ -299,7 +302,7 @@ module _ (x : Setting) (params slots : ℕ) (fit : SlotsFit x slots) (counts : C
       (g.turns ∙ e)))
       (more (record s { turns = n }) (fewer_turns n i) (sym e) (fewer n aside h s i (omega (arith, e)) g))
 
-  pub no_turn : (aside : Aside) (pc : ℕ) (h : Here) (s : State) (i : Instance) →
+  pub no_turn : (aside : Aside 0) (pc : ℕ) (h : Here) (s : State) (i : Instance) →
       Agrees x params slots aside h s i → s.turns ≡ 0 → Stands x.body pc (op instr.Turn h.line) →
       Ends x (placed pc [] i) (Broke (Some (record { kind = Turns; line = h.line })) s.text)
   no_turn aside pc h s i g e f = ends_by x _ _ instr.Turn h.line f
@@ -309,7 +312,7 @@ module _ (x : Setting) (params slots : ℕ) (fit : SlotsFit x slots) (counts : C
 
   -- ---- assignments
 
-  pub writes_name : (aside : Aside) (h : Here) (n : Name) (v : Value) (s : State) (pc : ℕ) (i : Instance) →
+  pub writes_name : (aside : Aside 0) (h : Here) (n : Name) (v : Value) (s : State) (pc : ℕ) (i : Instance) →
       IsSimple (bound_to h.scope.names n).static_type → IsOf (bound_to h.scope.names n).static_type v →
       is_bound h.scope.names n ≡ true → MayChange x.forms.takes (bound_to h.scope.names n).by_loop → Agrees x params slots aside h s i →
       Stands x.body pc (op (instr.Store (slot_named (where_of params h) n)) h.line) →
@@ -330,7 +333,7 @@ module _ (x : Setting) (params slots : ℕ) (fit : SlotsFit x slots) (counts : C
 
   -- ---- asserts and returns
 
-  pub asserts : (aside : Aside) (h : Here) (v : Value) (s : State) (pc : ℕ) (i : Instance) → IsOf truth_type v →
+  pub asserts : (aside : Aside 0) (h : Here) (v : Value) (s : State) (pc : ℕ) (i : Instance) → IsOf truth_type v →
       Agrees x params slots aside h s i → Stands x.body pc (op instr.Assert h.line) →
       Does x params slots aside (valued pc [] v i) (suc pc) h
       (if_true (truth_of v) (given goes_on) (fault h AssertFailed) s)
@@ -338,7 +341,7 @@ module _ (x : Setting) (params slots : ℕ) (fit : SlotsFit x slots) (counts : C
   asserts aside h _ s pc i (of_truth false) g f = ends_by x _ _ instr.Assert h.line f
       (ap (λ t. IsOver (Broke (Some (record { kind = AssertFailed; line = h.line })) t)) g.text)
 
-  pub returns : (aside : Aside) (h : Here) (u : StaticType) (v : Value) (s : State) (pc pc2 : ℕ) (i : Instance) →
+  pub returns : (aside : Aside 0) (h : Here) (u : StaticType) (v : Value) (s : State) (pc pc2 : ℕ) (i : Instance) →
       HasZero u → u ≡ x.result → IsOf u v → Agrees x params slots aside h s i →
       Stands x.body pc (op instr.ReturnValue h.line) →
       Does x params slots aside (valued pc [] v i) pc2 h (gives (returned v) s)
@@ -376,7 +379,7 @@ module _ (x : Setting) (params slots : ℕ) (fit : SlotsFit x slots) (counts : C
   -- ---- blocks and loops
 
   -- a block in its own scope
-  pub scoped_by : (aside : Aside) (h : Here) (body : Block) (s : State) (pc : ℕ) (i j : Instance) →
+  pub scoped_by : (aside : Aside 0) (h : Here) (body : Block) (s : State) (pc : ℕ) (i j : Instance) →
       params ≤ length h.scope.names → Agrees x params slots aside h s j →
       Does x params slots aside i pc (record h { scope = scope_after_block h.tree h.scope body })
       (exec_block h body s) →

@@ -25,7 +25,7 @@ use Rattle.code_laws.proofs.Good.{Gives, Good, valued}
 use Rattle.code_laws.proofs.Operations.{minus_runs, minus_typed, plain_signs, same_type, signs_run, signs_typed, standing_runs}
 use Rattle.code_laws.proofs.Runs.{comes_said, leads_by, leads_none, leads_twice, then}
 
-module _ (x : Setting) (params slots : ℕ) (fit : SlotsFit x slots) (aside : Aside) where
+module _ (x : Setting) (params slots : ℕ) (fit : SlotsFit x slots) {deep : ℕ} (aside : Aside deep) where
   -- a minus before what stands for a number
   one_minus : (t : StaticType) (u : Value) (pc line : ℕ) (st : List MachineValue) (i : Instance) → IsCounting t → IsOf (counting_as t) u →
       Stands x.body pc (op (instr.Neg (width_of_type t)) line) →

@@ -72,7 +72,7 @@ module _ (x : Setting) (params slots : ℕ) (fit : SlotsFit x slots) (counts : C
       ∙ ap (λ b. take_point c v false line k m (cond b (Some k) None)) (lt-ltb k n low)
 
   -- from an index on
-  pub over_space : (left k n : ℕ) (aside : Aside) (h h2 : Here) (name : Name) (kind : Kind) (body : Run Going) (code : Piece)
+  pub over_space : (left k n : ℕ) (aside : Aside 0) (h h2 : Here) (name : Name) (kind : Kind) (body : Run Going) (code : Piece)
       (s : State) (pc : ℕ) (i : Instance) → k + left ≡ n → n ≤ 4194304 → params ≤ length h.scope.names →
       Agrees x params slots aside h s i →
       slice_get i.frame.slots (counter (where_of params h) (length h.scope.names)) ≡ Some (machine.Number (pos k)) →
@@ -80,7 +80,7 @@ module _ (x : Setting) (params slots : ℕ) (fit : SlotsFit x slots) (counts : C
       Stands x.body pc (rounds (instr.NextPoint (beside (where_of params h) (length h.scope.names))
       (counter (where_of params h) (length h.scope.names)) (slot (where_of params h) (length h.scope.names)) false) h.line code) →
       Grown h.scope.names h2.scope.names → program_of h2 ≡ program_of h →
-      ((aside2 : Aside) (s1 : State) (j : Instance) → Agrees x params slots aside2 (looping h name (index_type kind)) s1 j →
+      ((aside2 : Aside 0) (s1 : State) (j : Instance) → Agrees x params slots aside2 (looping h name (index_type kind)) s1 j →
       Does x params slots aside2 (placed (suc pc) [] j) (past code (suc pc)) h2 (body s1)) →
       Does x params slots aside (placed pc [] i) (suc (past code (suc pc))) h
       (rounds_over h (map (λ i. an_index (pos i)) (counted_from k left)) body s)
@@ -128,7 +128,7 @@ module _ (x : Setting) (params slots : ℕ) (fit : SlotsFit x slots) (counts : C
       (e3 ∙ ap (λ z. Some (machine.Number z)) next_is) f3 f grown same more)
 
   -- a loop over a space that stands on the stack
-  pub spaces_run : (aside : Aside) (h h2 : Here) (name : Name) (t : StaticType) (v : Value) (body : Run Going) (code : Piece)
+  pub spaces_run : (aside : Aside 0) (h h2 : Here) (name : Name) (t : StaticType) (v : Value) (body : Run Going) (code : Piece)
       (s : State) (pc : ℕ) (i : Instance) → IsSpace t → IsOf t v → params ≤ length h.scope.names →
       Agrees x params slots aside h s i →
       Stands x.body pc (op (instr.Store (beside (where_of params h) (length h.scope.names))) h.line) →
@@ -137,7 +137,7 @@ module _ (x : Setting) (params slots : ℕ) (fit : SlotsFit x slots) (counts : C
       Stands x.body (suc (suc (suc pc))) (rounds (instr.NextPoint (beside (where_of params h) (length h.scope.names))
       (counter (where_of params h) (length h.scope.names)) (slot (where_of params h) (length h.scope.names)) (is_pointer (taken_from t))) h.line code) →
       Grown h.scope.names h2.scope.names → program_of h2 ≡ program_of h →
-      ((aside2 : Aside) (s1 : State) (j : Instance) → Agrees x params slots aside2 (looping h name (taken_from t)) s1 j →
+      ((aside2 : Aside 0) (s1 : State) (j : Instance) → Agrees x params slots aside2 (looping h name (taken_from t)) s1 j →
       Does x params slots aside2 (placed (suc (suc (suc (suc pc)))) [] j) (past code (suc (suc (suc (suc pc))))) h2 (body s1)) →
       Does x params slots aside (valued pc [] v i) (suc (past code (suc (suc (suc (suc pc)))))) h (rounds_over h (items_of v) body s)
   spaces_run aside h h2 name _ _ body code s pc i (a_space_type kind) (of_space _ n small) low g f1 f2 f3 f4 grown same more =

@@ -1,7 +1,8 @@
 -- The code of a statement does what the statement means.
 use Rattle.code_laws.proofs.Behind.{folds_behind, sets_behind}
 use Rattle.code_laws.proofs.Moving.{assigned_runs, assigns}
-use Rattle.code_laws.proofs.FurtherWrites.{behind_reduced, behind_set, element_reduced, element_set}
+use Rattle.code_laws.proofs.FurtherWrites.{behind_reduced, behind_set, element_reduced, element_set, part_reduced_further, part_set_further}
+use Rattle.code_laws.proofs.PartWrites.{part_reduced, part_set}
 use Rattle.code_laws.proofs.Domains.{domains_run}
 use Rattle.code_laws.proofs.PointerForms.{itself_run}
 use Rattle.code_laws.proofs.Wider.{any_field, assigned, counting, zeroed}
@@ -60,7 +61,7 @@ module _ (x : Setting) (params slots : ℕ) (fit : SlotsFit x slots) (counts : C
   -- ---- statements
 
   mutual
-    pub form_runs : (aside : Aside) (h : Here) (form : Form) (s : State) (pc : ℕ) (i : Instance) →
+    pub form_runs : (aside : Aside 0) (h : Here) (form : Form) (s : State) (pc : ℕ) (i : Instance) →
         params ≤ length h.scope.names → IsTypedForm x.forms (where_of params h) form →
         Agrees x params slots aside h s i → Stands x.body pc (form_code (where_of params h) form) →
         Does x params slots aside (placed pc [] i) (past (form_code (where_of params h) form) pc)
@@ -245,11 +246,23 @@ module _ (x : Setting) (params slots : ℕ) (fit : SlotsFit x slots) (counts : C
         (λ v s1 j k. folds_element x params slots fit aside o h n y f2 u t v s1 _ j low fine.3 (counting x.forms.keeps _ fine.4) fine.5
         (any_field x.forms.keeps w n f2 u fine.6) fine.7 fine.1 fine.0 k.0 k.1 f.1)
     form_runs aside h (assign_form n (at_step _ no_step) how.Set e) s pc i low fine g f = absurd fine
-    form_runs aside h (assign_form n (at_step _ (at_step _ _)) how.Set e) s pc i low fine g f = absurd fine
+    form_runs aside h (assign_form n (at_step y (at_step y2 (field_step f2 no_step))) how.Set e) s pc i low fine g f =
+        part_set x params slots fit aside counts h n y y2 f2 e s pc i low fine g f
+    form_runs aside h (assign_form n (at_step y (at_step y2 (field_step f2 (field_step f3 rest)))) how.Set e) s pc i low fine g f =
+        part_set_further x params slots fit aside counts h n y y2 f2 f3 rest e s pc i low fine g f
+    form_runs aside h (assign_form n (at_step _ (at_step _ (field_step _ (at_step _ _)))) how.Set e) s pc i low fine g f = absurd fine
+    form_runs aside h (assign_form n (at_step _ (at_step _ (at_step _ _))) how.Set e) s pc i low fine g f = absurd fine
+    form_runs aside h (assign_form n (at_step _ (at_step _ no_step)) how.Set e) s pc i low fine g f = absurd fine
     form_runs aside h (assign_form n (at_step y (field_step f2 (field_step f3 rest))) how.Set e) s pc i low fine g f = element_set x params slots fit aside counts h n y f2 f3 rest e s pc i low fine g f
     form_runs aside h (assign_form n (at_step _ (field_step _ (at_step _ _))) how.Set e) s pc i low fine g f = absurd fine
     form_runs aside h (assign_form n (at_step _ no_step) (how.Reduce o) e) s pc i low fine g f = absurd fine
-    form_runs aside h (assign_form n (at_step _ (at_step _ _)) (how.Reduce o) e) s pc i low fine g f = absurd fine
+    form_runs aside h (assign_form n (at_step y (at_step y2 (field_step f2 no_step))) (how.Reduce o) e) s pc i low fine g f =
+        part_reduced x params slots fit aside counts o h n y y2 f2 e s pc i low fine g f
+    form_runs aside h (assign_form n (at_step y (at_step y2 (field_step f2 (field_step f3 rest)))) (how.Reduce o) e) s pc i low fine g f =
+        part_reduced_further x params slots fit aside counts o h n y y2 f2 f3 rest e s pc i low fine g f
+    form_runs aside h (assign_form n (at_step _ (at_step _ (field_step _ (at_step _ _)))) (how.Reduce o) e) s pc i low fine g f = absurd fine
+    form_runs aside h (assign_form n (at_step _ (at_step _ (at_step _ _))) (how.Reduce o) e) s pc i low fine g f = absurd fine
+    form_runs aside h (assign_form n (at_step _ (at_step _ no_step)) (how.Reduce o) e) s pc i low fine g f = absurd fine
     form_runs aside h (assign_form n (at_step y (field_step f2 (field_step f3 rest))) (how.Reduce o) e) s pc i low fine g f = element_reduced x params slots fit aside counts o h n y f2 f3 rest e s pc i low fine g f
     form_runs aside h (assign_form n (at_step _ (field_step _ (at_step _ _))) (how.Reduce o) e) s pc i low fine g f = absurd fine
     form_runs aside h (fill_form r fields e) s pc i low fine g f =
@@ -276,7 +289,7 @@ module _ (x : Setting) (params slots : ℕ) (fit : SlotsFit x slots) (counts : C
         made.takes made.within (fetch_small x.body (suc a) _ f.1.1) k.2 called_at)
         (λ v s2 j2 k2. (j2, leads_by x _ _ instr.Drop h.line f.1.1 refl, k2.0)))
 
-    arms_run : (aside : Aside) (own h h0 : Here) (arms : Arms) (other : Run Going) (oc : Piece) (s : State)
+    arms_run : (aside : Aside 0) (own h h0 : Here) (arms : Arms) (other : Run Going) (oc : Piece) (s : State)
         (pc : ℕ) (i : Instance) → params ≤ length own.scope.names → IsAlike own h → IsAlike h h0 →
         AreTypedArms x.forms (where_of params own) (where_of params h) arms → Agrees x params slots aside h s i →
         Stands x.body pc (arms_code (where_of params own) (where_of params h) arms oc) →
@@ -308,7 +321,7 @@ module _ (x : Setting) (params slots : ℕ) (fit : SlotsFit x slots) (counts : C
         (arms_run aside own (after_arm h body) h0 rest other oc s1 (suc b) j low o e fine.3
         (same_scope x params slots aside h (after_arm h body) s1 j (refl, refl) g1) f.1.3 more))
 
-    else_runs : (aside : Aside) (h : Here) (other : Otherwise) (s : State) (pc : ℕ) (i : Instance) →
+    else_runs : (aside : Aside 0) (h : Here) (other : Otherwise) (s : State) (pc : ℕ) (i : Instance) →
         params ≤ length h.scope.names → IsTypedElse x.forms (where_of params h) other →
         Agrees x params slots aside h s i → Stands x.body pc (else_code (where_of params h) other) →
         Does x params slots aside (placed pc [] i) (past (else_code (where_of params h) other) pc) h
@@ -317,7 +330,7 @@ module _ (x : Setting) (params slots : ℕ) (fit : SlotsFit x slots) (counts : C
     else_runs aside h (else_block body) s pc i low fine g f =
         scoped_by x params slots fit counts aside h body s _ _ i low g (block_runs aside h body s pc i low fine g f)
 
-    pub block_runs : (aside : Aside) (h : Here) (body : Block) (s : State) (pc : ℕ) (i : Instance) →
+    pub block_runs : (aside : Aside 0) (h : Here) (body : Block) (s : State) (pc : ℕ) (i : Instance) →
         params ≤ length h.scope.names → IsTypedBlock x.forms (where_of params h) body →
         Agrees x params slots aside h s i → Stands x.body pc (block_code (where_of params h) body) →
         Does x params slots aside (placed pc [] i) (past (block_code (where_of params h) body) pc)

@@ -77,7 +77,7 @@ module _ (x : Setting) (params slots : ℕ) (fit : SlotsFit x slots) where
   set_other xs a b v n = get_or-set_other xs a b v blank n
 
   -- a new name
-  pub bound_more : (o : Aside) (h : Here) (s : State) (i : Instance) (n : Name) (t : StaticType)
+  pub bound_more : (o : Aside 0) (h : Here) (s : State) (i : Instance) (n : Name) (t : StaticType)
       (by_loop : Bool) (v : Value) → params ≤ length h.scope.names →
       slot (where_of params h) (length h.scope.names) < slots → IsOf t v → IsInside x s.store t v →
       IsPointed h.scope.names s.names t v → IsUnder x.forms.takes h.scope.names s.names t v →
@@ -111,6 +111,7 @@ module _ (x : Setting) (params slots : ℕ) (fit : SlotsFit x slots) where
           set_other xs (slot w k) (beside w p) m (λ q. omega (arith, q, a, b, g.inside, c))
               ∙ (g.hidden p a b).1,
         );
+        held = λ p l. absurd (omega (arith, l));
         typed = (
           refl,
           subst (IsOf t) (sym last) ty,
@@ -152,7 +153,7 @@ module _ (x : Setting) (params slots : ℕ) (fit : SlotsFit x slots) where
       }
 
   -- another value of a name
-  pub changed : (o : Aside) (h : Here) (s : State) (i : Instance) (n : Name) (v : Value) →
+  pub changed : (o : Aside 0) (h : Here) (s : State) (i : Instance) (n : Name) (v : Value) →
       is_bound h.scope.names n ≡ true → MayChange x.forms.takes (bound_to h.scope.names n).by_loop → IsNoPartition (get_or s.names (bound_to h.scope.names n).place nothing) →
       slot (where_of params h) (bound_to h.scope.names n).place < slots →
       IsOf (bound_to h.scope.names n).static_type v → IsInside x s.store (bound_to h.scope.names n).static_type v →
@@ -190,6 +191,7 @@ module _ (x : Setting) (params slots : ℕ) (fit : SlotsFit x slots) where
           set_other xs (slot w k) (counter w p) m (λ q. omega (arith, q, a, b)) ∙ (g.hidden p a b).0,
           set_other xs (slot w k) (beside w p) m (λ q. omega (arith, q, a, b)) ∙ (g.hidden p a b).1,
         );
+        held = λ p l. absurd (omega (arith, l));
         typed = typed_set IsOf h.scope.names s.names n v (omega (arith, c)) b ty g.typed;
         inside_store = typed_set (IsInside x s.store) h.scope.names s.names n v (omega (arith, c)) b inside g.inside_store;
         pointed = pointed_set s.names k v (omega (arith, low, c)) none alike params h.scope.names g.pointed;
@@ -217,7 +219,7 @@ module _ (x : Setting) (params slots : ℕ) (fit : SlotsFit x slots) where
       }
 
   -- a block's names are left
-  pub cut : (o : Aside) (h : Here) (h2 : Here) (n : ℕ) (s : State) (i : Instance) →
+  pub cut : (o : Aside 0) (h : Here) (h2 : Here) (n : ℕ) (s : State) (i : Instance) →
       params ≤ length h.scope.names → Grown h.scope.names h2.scope.names → program_of h2 ≡ program_of h → n ≡ length h.scope.names → o.upto ≤ n →
       Agrees x params slots o h2 s i → Agrees x params slots o h (record s { names = take n s.names }) i
   cut o h h2 n s i least grown tree e up g =
@@ -230,6 +232,7 @@ module _ (x : Setting) (params slots : ℕ) (fit : SlotsFit x slots) where
         names = λ p l. g.names p (omega (arith, l, len, enough))
             ∙ ap (machine_value i.contents) (sym (get_or-take n s.names p nothing (omega (arith, l, len))));
         hidden = g.hidden;
+        held = λ p l. absurd (omega (arith, l));
         typed = typed_cut IsOf h.scope.names s.names n (omega (arith, e))
             (typed_fewer IsOf grown.more h.scope.names s.names (subst (λ bs. AreOf IsOf bs s.names) grown.are g.typed));
         inside_store = typed_cut (IsInside x s.store) h.scope.names s.names n (omega (arith, e))
@@ -263,7 +266,7 @@ module _ (x : Setting) (params slots : ℕ) (fit : SlotsFit x slots) where
       }
 
   -- a loop's counter, or its limit, beside the slots that are kept_number
-  pub aside_stored : (o : Aside) (h : Here) (s : State) (i : Instance) (k d : ℕ) (v : MachineValue) →
+  pub aside_stored : (o : Aside 0) (h : Here) (s : State) (i : Instance) (k d : ℕ) (v : MachineValue) →
       params ≤ k → o.upto ≤ k → length h.scope.names + d ≤ k + 2 → 0 < d → d < 3 → is_pending v ≡ false →
       Agrees x params slots o h s i →
       Agrees x params slots o h s (stored (slot (where_of params h) k + d) v i)
@@ -277,6 +280,7 @@ module _ (x : Setting) (params slots : ℕ) (fit : SlotsFit x slots) where
           set_other xs (slot w k + d) (counter w p) v (λ q. omega (arith, q, a, b, up, some, few)) ∙ (g.hidden p a b).0,
           set_other xs (slot w k + d) (beside w p) v (λ q. omega (arith, q, a, b, up, some, few)) ∙ (g.hidden p a b).1,
         );
+        held = λ p l. absurd (omega (arith, l));
         typed = g.typed;
         inside_store = g.inside_store;
         pointed = g.pointed;
@@ -301,13 +305,18 @@ module _ (x : Setting) (params slots : ℕ) (fit : SlotsFit x slots) where
         framed = g.framed;
       }
 
+  -- what is aside in a round that begins here
+  abbrev pub from_here : ℕ → State → Instance → Aside 0
+  from_here k s i = record { upto = k; slots = i.frame.slots; names = s.names; turns = s.turns; held = λ p. blank }
+
   -- a round begins: the slots are kept_number as they are now
-  pub enters : (o : Aside) (h : Here) (s : State) (i : Instance) (k : ℕ) → k ≤ length s.names →
+  pub enters : (o : Aside 0) (h : Here) (s : State) (i : Instance) (k : ℕ) → k ≤ length s.names →
       Agrees x params slots o h s i →
-      Agrees x params slots (record { upto = k; slots = i.frame.slots; names = s.names; turns = s.turns }) h s i
+      Agrees x params slots (from_here k s i) h s i
   enters o h s i k l g = record {
     names = g.names;
     hidden = λ p a b. (refl, refl);
+    held = λ p l. absurd (omega (arith, l));
     typed = g.typed;
     inside_store = g.inside_store;
     pointed = g.pointed;
@@ -331,7 +340,7 @@ module _ (x : Setting) (params slots : ℕ) (fit : SlotsFit x slots) where
   }
 
   -- and ends: the slots that were kept_number before it are those that were kept_number in it
-  pub leaves_round : (o o2 : Aside) (h h2 : Here) (n : ℕ) (s s2 : State) (i j : Instance) →
+  pub leaves_round : (o o2 : Aside 0) (h h2 : Here) (n : ℕ) (s s2 : State) (i j : Instance) →
       params ≤ length h.scope.names → o2.slots ≡ i.frame.slots → o.upto ≤ o2.upto → o2.turns ≤ o.turns →
       Grown h.scope.names h2.scope.names → program_of h2 ≡ program_of h → n ≡ length h.scope.names → o.upto ≤ n →
       ((p : ℕ) → params ≤ p → p < o.upto →
@@ -354,6 +363,7 @@ module _ (x : Setting) (params slots : ℕ) (fit : SlotsFit x slots) where
           (g.hidden p a (omega (arith, b, up))).0 ∙ ap (λ xs. get_or xs (counter w p) blank) e ∙ (kept_number p a b).0,
           (g.hidden p a (omega (arith, b, up))).1 ∙ ap (λ xs. get_or xs (beside w p) blank) e ∙ (kept_number p a b).1,
         );
+        held = λ p l. absurd (omega (arith, l));
         typed = typed_cut IsOf h.scope.names s2.names n (omega (arith, en))
             (typed_fewer IsOf grown.more h.scope.names s2.names (subst (λ bs. AreOf IsOf bs s2.names) grown.are g.typed));
         inside_store = typed_cut (IsInside x s2.store) h.scope.names s2.names n (omega (arith, en))

@@ -14,7 +14,7 @@ use Rattle.memory_laws.specs.Places.{number_at, numbers}
 use Rattle.code_laws.specs.Standing.{Agrees, Aside, machine_value}
 use Rattle.code_laws.specs.Steps.{HasMore, Setting}
 
-module _ (x : Setting) (params slots : ℕ) (aside aside2 : Aside) (h h2 : Here) (s t : State) (i j : Instance) (g : Agrees x params slots aside h s i)
+module _ (x : Setting) (params slots : ℕ) {deep : ℕ} (aside aside2 : Aside deep) (h h2 : Here) (s t : State) (i j : Instance) (g : Agrees x params slots aside h s i)
     (k : Agrees x params slots aside2 h2 t j) (more : HasMore i.frame.own j.frame.own) where
   -- those that are there come first among what is there later
   numbers_are : numbers j.contents ≡ numbers i.contents ++ map (λ (id : RootId). id.0) more.more

@@ -78,7 +78,7 @@ pub record PassesTo (x : Setting) (tree : Tree) (store : Store) (j : Instance) (
   pub there : HasRegion j slot q
   pub touched : IsReached x tree j store q sp place a
 
-module _ (x : Setting) (params slots : ℕ) (fit : SlotsFit x slots) (aside : Aside) where
+module _ (x : Setting) (params slots : ℕ) (fit : SlotsFit x slots) {deep : ℕ} (aside : Aside deep) where
   -- what a region's name has lies in the store
   name_inside : (h : Here) (b sp : ℕ) (q : Region) (s : State) (j : Instance) →
       IsOfName (bound_as h.scope.names b) (length h.scope.names) s.names sp b q → Agrees x params slots aside h s j →

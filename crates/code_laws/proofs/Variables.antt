@@ -60,7 +60,7 @@ module _ (x : Setting) (params slots : ℕ) (fit : SlotsFit x slots) (counts : C
   -- ---- variables
 
   -- a new variable has the value that stands on the stack
-  pub binds : (aside : Aside) (h : Here) (n : Name) (t : Option TypeTerm) (start : Option Initializer) (v : Value) (s : State)
+  pub binds : (aside : Aside 0) (h : Here) (n : Name) (t : Option TypeTerm) (start : Option Initializer) (v : Value) (s : State)
       (pc : ℕ) (i : Instance) → params ≤ length h.scope.names → IsOf (var_type h.tree h.scope t start) v →
       IsInside x s.store (var_type h.tree h.scope t start) v → IsPointed h.scope.names s.names (var_type h.tree h.scope t start) v →
       IsUnder x.forms.takes h.scope.names s.names (var_type h.tree h.scope t start) v →
@@ -80,7 +80,7 @@ module _ (x : Setting) (params slots : ℕ) (fit : SlotsFit x slots) (counts : C
       )
 
   -- 0 or false
-  pub zero_runs : (aside : Aside) (h : Here) (t : StaticType) (s : State) (pc : ℕ) (i : Instance) → HasZero t →
+  pub zero_runs : (aside : Aside 0) (h : Here) (t : StaticType) (s : State) (pc : ℕ) (i : Instance) → HasZero t →
       Agrees x params slots aside h s i → Stands x.body pc (op (instr.Num (zero_kept t)) h.line) →
       Gives x params slots fit aside h t (op (instr.Num (zero_kept t)) h.line) pc [] [] i (gives (zero_of h.scope s.names t) s)
   zero_runs aside h _ s pc i (zero_scalar _ (scalar_integer w)) g f =
@@ -93,11 +93,11 @@ module _ (x : Setting) (params slots : ℕ) (fit : SlotsFit x slots) (counts : C
       (of_index k (pos 0) (zero_fits W64)) g refl
 
   -- a value that may be a region
-  abbrev pub GoodInside : Aside → Here → StaticType → Value → State → Instance → Type 0
+  abbrev pub GoodInside : Aside 0 → Here → StaticType → Value → State → Instance → Type 0
   GoodInside aside h t v s j = IsOf t v × IsInside x s.store t v × Agrees x params slots aside h s j
 
   -- a root of an index space's size
-  pub region_runs : (aside : Aside) (h : Here) (from : StaticType) (v : Value) (u : SpaceUse) (s : State) (pc : ℕ) (i : Instance)
+  pub region_runs : (aside : Aside 0) (h : Here) (from : StaticType) (v : Value) (u : SpaceUse) (s : State) (pc : ℕ) (i : Instance)
       (k : Kind) (args : List Reach) (r : Term) → x.forms.makes ≡ true → IsSpace from →
       IsMakable h.tree (place_of_space h.tree u.name) → IsFresh x.forms.takes r → IsOf from v → Agrees x params slots aside h s i →
       Stands x.body pc (op (instr.NewRoot (place_of_space h.tree u.name)) h.line) → suc pc < 2 ^ 32 →
@@ -111,7 +111,7 @@ module _ (x : Setting) (params slots : ℕ) (fit : SlotsFit x slots) (counts : C
       )
 
   -- the value is put aside, and the fields are filled with it
-  pub fill_runs : (aside : Aside) (h : Here) (r : Name) (fs : List Name) (from : StaticType) (v : Value) (s : State) (pc : ℕ) (i : Instance) →
+  pub fill_runs : (aside : Aside 0) (h : Here) (r : Name) (fs : List Name) (from : StaticType) (v : Value) (s : State) (pc : ℕ) (i : Instance) →
       params ≤ length h.scope.names → is_bound h.scope.names r ≡ true → IsRegion (bound_to h.scope.names r).static_type →
       AreFilled x.forms.keeps (where_of params h) r from fs → MayFill x.forms (where_of params h) r fs → IsOf from v → Agrees x params slots aside h s i →
       Stands x.body pc (op (instr.Store (spare (where_of params h) 0)) h.line) →

@@ -44,7 +44,7 @@ use Rattle.code_rules.specs.Pieces.{op, past, ◌⨟◌}
 use Rattle.code_rules.specs.Slots.{own_slot, slot, slots_of, typed}
 use Rattle.memory_laws.specs.Memory.{Holds, IsKept, memory_of}
 use Rattle.memory_laws.specs.Places.{number_at}
-use Rattle.code_laws.specs.Steps.{Setting, machine_of, placed, on_step, Leads}
+use Rattle.code_laws.specs.Steps.{HasMore, Setting, machine_of, placed, on_step, Leads}
 use Rattle.code_laws.specs.Standing.{Agrees, Aside, Comes, IsInside, IsOf, SlotsFit, Stands, machine_value, nothing, of_index, of_integer, of_pointer, of_region, of_truth, where_of}
 use Rattle.code_laws.specs.Taking.{MayDo}
 use Rattle.value_laws.specs.Shapes.{regions_listed}
@@ -76,7 +76,7 @@ no_read e = absurd cc
 no_fold : (o : Op) → mode.Reduce o ≢ mode.Read
 no_fold o e = absurd cc
 
-module _ (x : Setting) (params slots : ℕ) (fit : SlotsFit x slots) (aside : Aside) where
+module _ (x : Setting) (params slots : ℕ) (fit : SlotsFit x slots) {deep : ℕ} (aside : Aside deep) where
   -- an assignment went on
   abbrev pub GoesOn : Here → Going → State → Instance → Type 0
   GoesOn h g s j = (g ≡ goes_on) × Agrees x params slots aside h s j
@@ -185,9 +185,9 @@ module _ (x : Setting) (params slots : ℕ) (fit : SlotsFit x slots) (aside : As
       IsRegion t →
       Gives x params slots fit aside h (typed (where_of params h) e) (expr_code (where_of params h) d e) pc st st i (value h e s) →
       IsCounting (typed (where_of params h) e) → Leaves SameNames s (value h e s) →
-      ((s1 : State) (j : Instance) → s1.names ≡ s.names → Agrees x params slots aside h s1 j → HasRegion j sl q) →
+      ((s1 : State) (j : Instance) → s1.names ≡ s.names → HasMore i.frame.own j.frame.own → Agrees x params slots aside h s1 j → HasRegion j sl q) →
       Stands x.body pc (steps_code (where_of params h) d t sl (at_step e no_step)) →
-      ((n : ℕ) (s1 : State) (j : Instance) → s1.names ≡ s.names → has q.points n ≡ true → Agrees x params slots aside h s1 j →
+      ((n : ℕ) (s1 : State) (j : Instance) → s1.names ≡ s.names → has q.points n ≡ true → HasRegion j sl q → Agrees x params slots aside h s1 j →
       T (placed (past (steps_code (where_of params h) d t sl (at_step e no_step)) pc)
       (machine.Number (kept_target (point_target n 1)) ∷ st) j) (K (a_pointer (point_target n 1) (q ∷ [])) s1)) →
       T (placed pc st i) (and_then (stepped h t (a_region q) (at_step e no_step) s) K)
@@ -247,8 +247,8 @@ module _ (x : Setting) (params slots : ℕ) (fit : SlotsFit x slots) (aside : As
           and_then (take_element h (number_of z) (a_region q) s2)
           (λ v. stepped h (type_of_element h.scope t e) v no_step)))) K)
       by_value (gives u s1) c names = said.before _ _ _ c.1
-          (by_index t region (typed (where_of params h) e) index u c.2.0 s1 c.0 (there s1 c.0 names c.2.1) c.2.1
-          (past (expr_code (where_of params h) d e) pc) stands.1 (λ n b. more n s1 c.0 names b c.2.1))
+          (by_index t region (typed (where_of params h) e) index u c.2.0 s1 c.0 (there s1 c.0 names c.1.own c.2.1) c.2.1
+          (past (expr_code (where_of params h) d e) pc) stands.1 (λ n b. more n s1 c.0 names b (there s1 c.0 names c.1.own c.2.1) c.2.1))
       by_value (fails f s1) c names = said.failing _ f s1 c
 
   -- `r[e].f = v`, with the value on the stack
@@ -286,8 +286,8 @@ module _ (x : Setting) (params slots : ℕ) (fit : SlotsFit x slots) (aside : As
       λ s1 j names g. region_there x params slots fit aside h s1 j p q (ap (λ ns. get_or ns p nothing) names ∙ is)
       (subst (λ ns. p < length ns) (sym names) low) room g in
       element_points _ (comes_said x _ (GoesOn h)) h 0 _ sl e q s pc (machine.Number (kept_number v) ∷ []) i _ (a_region_type k sp args r)
-      (runs pc stands.0.1.0) index same there stands.0.1
-      (λ n s1 j names b g.
+      (runs pc stands.0.1.0) index same (λ s1 j names more g. there s1 j names g) stands.0.1
+      (λ n s1 j names b at_slot g.
       let lie = subst (IsInside x s1.store (region_type k sp args r)) (ap (λ ns. get_or ns p nothing) names ∙ is) (lies s1 j g) in
       field_writes h pt f place n (kept_target (point_target n 1)) (sl ∷ []) q out v s1 a [] j fits o
       (aims_first (machine_of j) sl n (region_with (number_at j.contents q.root) q.points) (lie.0.small n b) (ap region_in (there s1 j names g)) b)
@@ -329,8 +329,8 @@ module _ (x : Setting) (params slots : ℕ) (fit : SlotsFit x slots) (aside : As
       λ s1 j names g. region_there x params slots fit aside h s1 j p q (ap (λ ns. get_or ns p nothing) names ∙ is)
       (subst (λ ns. p < length ns) (sym names) low) room g in
       element_points _ (comes_said x _ (GoesOn h)) h 0 _ sl e q s pc (machine.Number y ∷ []) i _ (a_region_type k sp args r)
-      (runs pc stands.0.1.0) index same there stands.0.1
-      (λ n s1 j names b g.
+      (runs pc stands.0.1.0) index same (λ s1 j names more g. there s1 j names g) stands.0.1
+      (λ n s1 j names b at_slot g.
       let lie = subst (IsInside x s1.store (region_type k sp args r)) (ap (λ ns. get_or ns p nothing) names ∙ is) (lies s1 j g) in
       field_folds o h pt f place n (kept_target (point_target n 1)) (sl ∷ []) q wd we y s1 a [] j fits
       (aims_first (machine_of j) sl n (region_with (number_at j.contents q.root) q.points) (lie.0.small n b) (ap region_in (there s1 j names g)) b)

@@ -7,6 +7,7 @@ pub mod Coloured
 pub mod Standing
 pub mod Arguments
 pub mod Counting
+pub mod Fields
 pub mod Typed
 pub mod Programs
 pub mod Handing

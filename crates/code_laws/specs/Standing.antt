@@ -50,7 +50,7 @@ use Rattle.regent_tree.specs.declared.outcome.FaultKind.TheVariants.{Depth}
 use Rattle.task_code.specs.declared.code.Code.{Code}
 use Rattle.code_rules.specs.Pieces.{Piece, empty, op, ◌⨟◌, over, branch, loop, rounds, past, line_of}
 use Rattle.code_rules.specs.Programs.{code_of, space_code, task_code}
-use Rattle.code_rules.specs.Slots.{Where, slot, counter, beside}
+use Rattle.code_rules.specs.Slots.{Where, slot, counter, beside, spare}
 use Rattle.code_rules.specs.Used.{slots_used}
 use Rattle.memory_laws.specs.Closing.{AreOwn}
 use Rattle.memory_laws.specs.Covering.{AreCovered}
@@ -161,13 +161,14 @@ where_of params h = record {
 abbrev pub program_of : Here → Tree × Calls × StaticType
 program_of h = (h.tree, h.calls, h.result)
 
--- the slots when the round of the innermost loop began, how many names were in scope there, their values, and a
--- bound of the turns that were left
-pub record Aside : Type 0 where
+-- The slots when the round of the innermost loop began, how many names were in scope there, their values, and a
+-- bound of the turns that were left; and what was put aside in so many spare slots since the statement began.
+pub record Aside (deep : ℕ) : Type 0 where
   pub upto : ℕ
   pub slots : List MachineValue
   pub names : List Value
   pub turns : ℕ
+  pub held : ℕ → MachineValue
 
 -- a touch of a root that the instance made itself: these come behind those that were there before it
 abbrev pub is_own : Setting → Touch → Bool
@@ -309,7 +310,8 @@ AreUnder takes (b ∷ bs) names = IsUnder takes bs names b.static_type (get_or n
 -- and what it has of the roots stands for the store. The slots beside those of names that were in scope
 -- when the innermost loop's round began are as they were then, and so are the regions that these names had. Beside a
 -- pointer into a part stands the part. A region that began as a part lies within the region of which the partition is, and is that part.
-pub record Agrees (x : Setting) (params slots : ℕ) (o : Aside) (h : Here) (s : State) (i : Instance) : Type 0 where
+-- What was put aside in spare slots is there still.
+pub record Agrees {deep : ℕ} (x : Setting) (params slots : ℕ) (o : Aside deep) (h : Here) (s : State) (i : Instance) : Type 0 where
   pub names : (p : ℕ) → p < length s.names →
       get_or i.frame.slots (slot (where_of params h) p) blank
       ≡ machine_value i.contents (get_or s.names p nothing)
@@ -318,6 +320,7 @@ pub record Agrees (x : Setting) (params slots : ℕ) (o : Aside) (h : Here) (s :
       ≡ get_or o.slots (counter (where_of params h) p) blank)
       × (get_or i.frame.slots (beside (where_of params h) p) blank
       ≡ get_or o.slots (beside (where_of params h) p) blank)
+  pub held : (k : ℕ) → k < deep → get_or i.frame.slots (spare (where_of params h) k) blank ≡ o.held k
   pub typed : AreOf IsOf h.scope.names s.names
   pub inside_store : AreOf (IsInside x s.store) h.scope.names s.names
   pub pointed : ArePointed params s.names h.scope.names
@@ -357,7 +360,7 @@ abbrev pub back : Option ℤ → Instance → Ended
 back result j = CameBack result j.frame.own (give_parts j.parts j.contents) j.text
 
 -- a value that was returned ends the run
-abbrev pub Does : Setting → ℕ → ℕ → Aside → Instance → ℕ → Here → Result Going → Type 0
+abbrev pub Does : Setting → ℕ → ℕ → Aside 0 → Instance → ℕ → Here → Result Going → Type 0
 Does x params slots o i pc h (gives goes_on s) =
     (j : Instance) × Leads x i (placed pc [] j) × Agrees x params slots o h s j
 Does x params slots o i pc h (gives (returned v) s) =

@@ -5,149 +5,32 @@ use Rattle.lane_kernels.specs.Numbers.{FitsWidth}
 use Rattle.lane_kernels.specs.declared.numbers.Mode.{Mode}
 use Rattle.lane_kernels.specs.declared.numbers.Mode.TheVariants as mode
 use Rattle.lane_kernels.specs.declared.numbers.Op.{Op}
-use Rattle.regent_tree.specs.declared.expression.Arithmetic.TheVariants.{Subtract}
 use Rattle.regent_tree.specs.declared.expression.Operator.TheVariants.{Or, And, Compare, Compute}
 use Rattle.regent_tree.specs.declared.statement.How.TheVariants as how
 use Rattle.regent_tree.specs.declared.facts.Term.TheVariants as term
-use Rattle.regent_tree.specs.declared.typing.Bound.{Bound}
 use Rattle.regent_tree.specs.declared.typing.StaticType.{StaticType}
-use Rattle.regent_tree.specs.declared.typing.StaticType.TheVariants.{Partition as partition_type, Truth as truth_type}
+use Rattle.regent_tree.specs.declared.typing.StaticType.TheVariants.{Truth as truth_type}
 use Rattle.regent_tree.specs.Accesses.{args_in, space_in}
-use Rattle.regent_tree.specs.StaticTypes.{Reach, field_kind, field_place, field_term, field_type, place_of_space, space_at, spaces_of, task_named}
+use Rattle.regent_tree.specs.StaticTypes.{Reach, field_place, field_term, field_type, place_of_space, space_at, spaces_of, task_named}
 use Rattle.regent_tree.specs.Lookup.{is_bound}
 use Rattle.regent_tree.specs.Execution.{before_last, last_field}
 use Rattle.regent_tree.specs.Syntax.{a_statement, Form, var_form, if_form, while_form, for_in_form, for_to_form, do_form, assert_form, print_form, assign_form, return_form, Block, no_statement, then_statement, Arms, no_arm, an_arm, Otherwise, no_else, else_block, both_initializer, by_field_initializer, either_initializer, equal_initializer, image_initializer, preimage_initializer, plain_initializer, region_initializer, Name, Tree, fill_form, call_form, call_expr, Expression, number_expr, truth_expr, chain_expr, prefix_expr, access_expr, convert_expr, Expressions, no_expr, an_expr, Links, no_link, a_link, Steps, no_step, field_step, at_step, space_expr, is_null_expr, null_expr, cast_expr, Initializer}
 use Rattle.regent_tree.specs.Scopes.{bound_as, scope_of}
-use Rattle.regent_tree.specs.Typing.{arithmetic_type, colour_of, has_wild, initializer_type, is_disjoint, operated, param_types, params_at, parent_of, reaches_of, result_type, taken_from, type_of_element, type_of_field, var_type}
+use Rattle.regent_tree.specs.Typing.{arithmetic_type, colour_of, has_wild, initializer_type, operated, param_types, params_at, parent_of, reaches_of, result_type, taken_from, type_of_field, var_type}
 use Rattle.code_laws.specs.Arguments.{AreDivided, AreMet, ArePaired, AreParted, IsCutName, IsHanded, IsHandedPart, IsParent, LiesBelow, parent_bound}
-use Rattle.code_laws.specs.Pointers.{AreThere, Assigned, BeginsAs, BeginsWith, ConvertsTo, CountsAs, FieldKeeps, FillsInto, GivesBack, HasZero, IsAssigned, IsCompared, IsCounting, IsLike, IsPointer, IsRead, IsWritten, PassesInto, SignedAs, AllGoToParams}
-use Rattle.code_laws.specs.Simple.{IsInteger, IsTruth, IsSimple, IsSpace, IsRegion, FieldFits, term_in}
+use Rattle.code_laws.specs.Pointers.{Assigned, BeginsAs, BeginsWith, ConvertsTo, CountsAs, FieldKeeps, FillsInto, GivesBack, HasZero, IsAssigned, IsCompared, IsCounting, IsLike, IsPointer, IsRead, IsWritten, PassesInto, SignedAs, AllGoToParams}
+use Rattle.code_laws.specs.Simple.{IsInteger, IsTruth, IsSpace, IsRegion, term_in}
 use Rattle.code_rules.specs.Instructions.{place_of_task, tasks_of}
 use Rattle.code_rules.specs.Programs.{task_code}
 use Rattle.code_laws.specs.Steps.{Forms, Taking}
 use Rattle.code_laws.specs.Taking.{BeginsAt, BeginsWhole, BeginsWithin, MayChange, MayDo, pairs_in}
-use Rattle.code_rules.specs.Slots.{Where, typed, bound, slot_named, slots_of}
+use Rattle.code_rules.specs.Slots.{Where, typed, bound}
 use Rattle.code_rules.specs.Expressions.{count}
 use Rattle.code_rules.specs.Statements.{on_line, after_form, after_arm, after_arms, looping}
-use Rattle.check_laws.specs.SoundScopes.{Falls}
 use Rattle.local_form.specs.LocalForm.{are_fields}
 use Rattle.check_rules.specs.rules.Formats.{numbers_in}
 pub use Rattle.code_laws.specs.Counting.{CountsDown}
-
--- A name in scope has a region, and the field is one of its field space, which keeps values of a type.
-pub record IsField (w : Where) (n f : Name) (t : StaticType) : Type 0 where
-  pub named : is_bound w.scope.names n ≡ true
-  pub region : IsRegion (bound w n).static_type
-  pub field : field_place w.tree (space_in (bound w n).static_type) f
-      < length (space_at w.tree (space_in (bound w n).static_type)).fields
-  pub keeps : FieldFits (field_kind w.tree (space_in (bound w n).static_type)
-      (field_place w.tree (space_in (bound w n).static_type) f)) t
-
--- also a field of indices or pointers, where these are kept
-pub record IsAnyField (w : Where) (n f : Name) (t : StaticType) : Type 0 where
-  pub named : is_bound w.scope.names n ≡ true
-  pub region : IsRegion (bound w n).static_type
-  pub field : field_place w.tree (space_in (bound w n).static_type) f
-      < length (space_at w.tree (space_in (bound w n).static_type)).fields
-  pub keeps : FieldKeeps (field_term w.tree (space_in (bound w n).static_type)
-      (field_place w.tree (space_in (bound w n).static_type) f)) t
-
-abbrev pub IsFieldOf : Bool → Where → Name → Name → StaticType → Type 0
-IsFieldOf false w n f t = IsField w n f t
-IsFieldOf true w n f t = IsAnyField w n f t
-
--- A name in scope has a pointer to elements of regions that have names, and the field is one of its field space.
--- The numbers of names in scope are all different.
-pub record IsBehind (w : Where) (n f : Name) (t : StaticType) : Type 0 where
-  pub named : is_bound w.scope.names n ≡ true
-  pub numbers : Falls w.scope.next w.scope.names
-  pub pointer : IsPointer (bound w n).static_type
-  pub certain : has_wild (reaches_of (bound w n).static_type) ≡ false
-  pub field : field_place w.tree (space_in (bound w n).static_type) f
-      < length (space_at w.tree (space_in (bound w n).static_type)).fields
-  pub keeps : FieldKeeps (field_term w.tree (space_in (bound w n).static_type)
-      (field_place w.tree (space_in (bound w n).static_type) f)) t
-
--- the type of a field of what a name's pointer goes to
-abbrev pub field_behind : Where → Name → Name → StaticType
-field_behind w n f = type_of_field w.tree (bound w n).static_type f
-
--- a region that has a name, with its own term
-pub record IsOwnRegion (w : Where) (b : Bound) (t : StaticType) : Type 0 where
-  pub number : ℕ
-  pub numbered : (bound_as w.scope.names number).number ≡ number
-  pub place : (bound_as w.scope.names number).place ≡ b.place
-  pub typed : IsRegion (bound_as w.scope.names number).static_type
-  pub space : space_in (bound_as w.scope.names number).static_type ≡ space_in t
-  pub is : reaches_of (taken_from t) ≡ Some (term.Name number) ∷ []
-
--- over what a loop goes: an index space, or also a region that has a name
-abbrev pub IsNamedRegion : Where → Expression → Type 0
-IsNamedRegion w (access_expr n no_step) = IsRegion (bound w n).static_type × IsOwnRegion w (bound w n) (bound w n).static_type
-IsNamedRegion w e = ⊥
-
-abbrev pub LoopsOver : Bool → Where → Expression → Type 0
-LoopsOver false w e = IsSpace (typed w e)
-LoopsOver true w e = IsSpace (typed w e) ⊎ IsNamedRegion w e
-
--- a name has a partition of its own number
-abbrev pub IsOwnCut : Where → Name → Type 0
-IsOwnCut w n = (bound w n).static_type ≡ partition_type (is_disjoint (bound w n).static_type) (parent_of (bound w n).static_type) (bound w n).number
-
--- or a part of a partition that has a name, of whose colour something holds
-abbrev pub LoopsOverPart : Where → Expression → Type 0 → Type 0
-LoopsOverPart w (access_expr n (at_step e no_step)) Part =
-    IsCutName w n × IsOwnCut w n × IsRegion (typed w (access_expr n (at_step e no_step))) × Part
-LoopsOverPart w e Part = ⊥
-
--- so a loop goes over something, with a body
-abbrev pub IsLooped : Bool → Where → Expression → Type 0 → Type 0 → Type 0 → Type 0
-IsLooped false w e Typed Part Body = LoopsOver false w e × Typed × Body
-IsLooped true w e Typed Part Body = (LoopsOver true w e × Typed × Body) ⊎ (LoopsOverPart w e Part × Body)
-
--- the type of a field of an element
-abbrev pub element_field : Where → Name → Expression → Name → StaticType
-element_field w n e f = type_of_field w.tree (type_of_element w.scope (bound w n).static_type e) f
-
--- the regions that a pointer's type names are in scope
-abbrev pub AreReachable : Where → StaticType → Type 0
-AreReachable w t = AreThere w.scope.names (space_in t) (reaches_of t)
-
--- an expression that gives a pointer of which the regions are known: a name, an element, a field, null, or a cast
-abbrev pub IsPointing : Where → Expression → Type 0
-IsPointing w (access_expr n no_step) = Falls w.scope.next w.scope.names
-IsPointing w (access_expr n (at_step e no_step)) = Unit {0}
-IsPointing w (access_expr n (at_step e (field_step f no_step))) = AreReachable w (element_field w n e f)
-IsPointing w (access_expr n (at_step e (field_step f (field_step g rest)))) = AreReachable w (typed w (access_expr n (at_step e (field_step f (field_step g rest)))))
-IsPointing w (access_expr n (field_step f no_step)) = AreReachable w (field_behind w n f)
-IsPointing w (access_expr n (field_step f (field_step g rest))) = AreReachable w (typed w (access_expr n (field_step f (field_step g rest))))
-IsPointing w (null_expr t) = Unit {0}
-IsPointing w (cast_expr t e) = Unit {0}
-IsPointing w e = ⊥
-
--- how a variable begins: as a number, a truth or an index space, or where pointers are kept as such a pointer
-abbrev pub IsKeepable : Bool → Where → Expression → Type 0
-IsKeepable false w e = IsSimple (typed w e)
-IsKeepable true w e = IsSimple (typed w e) ⊎ (IsPointer (typed w e) × IsPointing w e)
-
--- the difference of two partitions of one region
-abbrev pub IsDifference : Where → Expression → Type 0
-IsDifference w (chain_expr (access_expr p no_step) (a_link (Compute Subtract) (access_expr q no_step) no_link)) = ArePaired w p q
-IsDifference w e = ⊥
-
--- so a variable begins, or also with such a difference, or as a part
-abbrev pub IsBegun : Bool → Where → Expression → Type 0 → Type 0 → Type 0
-IsBegun false w e Begins Part = Begins
-IsBegun true w e Begins Part = Begins ⊎ (IsDifference w e ⊎ Part)
-
--- so one of a written type begins, or also with such a difference or as a part, whose type it is like
-abbrev pub IsSaid : Bool → Where → Expression → Type 0 → Type 0 → Type 0 → Type 0
-IsSaid false w e Begins Part Like = Begins
-IsSaid true w e Begins Part Like = Begins ⊎ ((IsDifference w e ⊎ Part) × Like)
-
--- a pointer to an element of a region that has a name goes through the name's slot
-abbrev pub GoesThrough : Where → Name → Expression → Type 0
-GoesThrough w n e = slots_of w (slot_named w n) (type_of_element w.scope (bound w n).static_type e) ≡ slot_named w n ∷ []
+pub use Rattle.code_laws.specs.Fields.{IsField, IsAnyField, IsFieldOf, IsBehind, field_behind, IsOwnRegion, IsNamedRegion, LoopsOver, IsOwnCut, LoopsOverPart, IsPiece, IsLooped, element_field, part_element, AreReachable, IsPointing, IsKeepable, IsDifference, IsBegun, IsSaid, GoesThrough}
 
 -- ---- expressions
 
@@ -207,6 +90,12 @@ AreFurther forms w t no_step = Unit {0}
 AreFurther forms w t (field_step f rest) = IsFurther forms w t f mode.Read × AreFurther forms w (type_of_field w.tree t f) rest
 AreFurther forms w t (at_step e rest) = ⊥
 
+-- the access may be made to a field of what a pointer of a type goes to
+pub record MayUse (forms : Forms) (w : Where) (t : StaticType) (f : Name) (a : Mode) : Type 0 where
+  pub field : field_place w.tree (space_in t) f < length (space_at w.tree (space_in t)).fields
+  pub keeps : FieldKeeps (field_term w.tree (space_in t) (field_place w.tree (space_in t) f)) (type_of_field w.tree t f)
+  pub may : MayReach forms w (reaches_of t) (field_place w.tree (space_in t) f) a
+
 -- so it may to a field through a name's pointer
 abbrev pub MayGo : Forms → Where → Name → Name → Mode → Type 0
 MayGo forms w n f a = MayReach forms w (reaches_of (bound w n).static_type) (field_place w.tree (space_in (bound w n).static_type) f) a
@@ -256,6 +145,12 @@ abbrev mutual
       × HasZero (result_type w.tree (task_named w.tree task).result) × IsCallable forms w task args
       × ArePassed forms w (params_at w.tree w.scope (task_named w.tree task) args)
       (param_types w.tree (task_named w.tree task)) args
+  IsTyped forms w (access_expr n (at_step e (at_step i no_step))) = (forms.keeps ≡ true) × IsPiece w n e
+      × (IsTyped forms w e × IsCounting (typed w e)) × (IsTyped forms w i × IsCounting (typed w i))
+  IsTyped forms w (access_expr n (at_step e (at_step i (field_step f rest)))) = (forms.keeps ≡ true) × IsPiece w n e
+      × (IsTyped forms w e × IsCounting (typed w e)) × (IsTyped forms w i × IsCounting (typed w i))
+      × MayUse forms w (part_element w n e i) f mode.Read
+      × AreFurther forms w (type_of_field w.tree (part_element w n e i) f) rest
   IsTyped forms w (space_expr k e) = IsTyped forms w e × IsInteger (typed w e)
   IsTyped forms w (convert_expr t e) = IsTyped forms w e × CountsAs forms.keeps (typed w e) × ConvertsTo forms.keeps t
   IsTyped forms w _ = ⊥
@@ -310,6 +205,17 @@ IsSetThrough forms w n steps rest y = (forms.keeps ≡ true) × Assigned (typed 
 abbrev pub IsReducedThrough : Forms → Where → Name → Steps → Steps → Op → Expression → Type 0
 IsReducedThrough forms w n steps rest o y = (forms.keeps ≡ true) × IsInteger (typed w y) × IsInteger (typed w (access_expr n steps))
     × IsTyped forms w y × IsThrough forms w n steps rest (mode.Reduce o)
+
+-- so is a field of an element of a part that has no name
+abbrev pub IsSetInPart : Forms → Where → Name → Expression → Expression → Name → Expression → Type 0
+IsSetInPart forms w n e i f y = (forms.keeps ≡ true) × Assigned (typed w y) (type_of_field w.tree (part_element w n e i) f) × IsTyped forms w y
+    × IsPiece w n e × (IsTyped forms w e × IsCounting (typed w e)) × (IsTyped forms w i × IsCounting (typed w i))
+    × MayUse forms w (part_element w n e i) f mode.Write
+
+abbrev pub IsReducedInPart : Forms → Where → Name → Expression → Expression → Name → Op → Expression → Type 0
+IsReducedInPart forms w n e i f o y = (forms.keeps ≡ true) × IsInteger (typed w y) × IsInteger (type_of_field w.tree (part_element w n e i) f)
+    × IsTyped forms w y × IsPiece w n e × (IsTyped forms w e × IsCounting (typed w e)) × (IsTyped forms w i × IsCounting (typed w i))
+    × MayUse forms w (part_element w n e i) f (mode.Reduce o)
 
 -- a field space that is there and has no more fields than a root may have
 pub record IsMakable (tree : Tree) (space : ℕ) : Type 0 where
@@ -377,6 +283,12 @@ abbrev mutual
       IsInteger (typed w y) × IsInteger (element_field w n e f) × IsTyped forms w y × IsTyped forms w e
       × CountsAs forms.keeps (typed w e) × GoesThrough w n e × IsFieldOf forms.keeps w n f (element_field w n e f)
       × MayTouch forms w n (field_place w.tree (space_in (bound w n).static_type) f) (mode.Reduce o)
+  IsTypedForm forms w (assign_form n (at_step e (at_step i (field_step f no_step))) how.Set y) = IsSetInPart forms w n e i f y
+  IsTypedForm forms w (assign_form n (at_step e (at_step i (field_step f no_step))) (how.Reduce o) y) = IsReducedInPart forms w n e i f o y
+  IsTypedForm forms w (assign_form n (at_step e (at_step i (field_step f (field_step g rest)))) how.Set y) =
+      IsSetThrough forms w n (at_step e (at_step i (field_step f (field_step g rest)))) rest y
+  IsTypedForm forms w (assign_form n (at_step e (at_step i (field_step f (field_step g rest)))) (how.Reduce o) y) =
+      IsReducedThrough forms w n (at_step e (at_step i (field_step f (field_step g rest)))) rest o y
   IsTypedForm forms w (call_form task args) = (forms.calls ≡ true) × IsCallable forms w task args
       × ArePassed forms w (params_at w.tree w.scope (task_named w.tree task) args)
       (param_types w.tree (task_named w.tree task)) args

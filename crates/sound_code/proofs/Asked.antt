@@ -21,7 +21,7 @@ use Rattle.code_laws.specs.Taking.{BeginsWhole, BeginsWithin, LiesUp, pairs_in}
 use Rattle.fit_rules.specs.Shapes.{anything}
 use Rattle.fit_rules.specs.Marks.{Mark}
 use Rattle.fit_rules.specs.Fits.{Program}
-use Rattle.sound_code.specs.Named.{AreNamed, HavePartsBeside, Ready}
+use Rattle.sound_code.specs.Named.{AreNamed, HavePartsBeside, Ready, ReadyAt}
 use Rattle.sound_code.specs.Ways.{Tops, Way, all_made, by_rules, opening_facts, shape_in, shape_of}
 use Rattle.sound_code.proofs.Grounds.{BeginsUnder, BeginsWholly, Ground, HasFacts, Kept, top_in}
 use Rattle.sound_code.proofs.Cuts.{Cut}
@@ -108,9 +108,9 @@ upto_end all_made tree t = tt
 upto_end (by_rules tops task) tree t = all_told (scope_after_block tree (scope_of tree t) t.body)
 
 module _ (g : Program) (t : TaskCode) (k n : ℕ) where
-  pub record Asked (forms : Forms) (way : Way) (w : Where) (m : Mark) : Type 0 where
+  pub record AskedAt (deep : ℕ) (forms : Forms) (way : Way) (w : Where) (m : Mark) : Type 0 where
     pub hands : Hands forms t way w.tree
-    pub ready : Ready way w.params w.scope.names m
+    pub ready : ReadyAt deep way w.params w.scope.names m
     pub params : w.params ≡ t.params
     pub result : g.results k ≡ shape_of w.result
     pub room : length m.slots ≡ n
@@ -121,6 +121,10 @@ module _ (g : Program) (t : TaskCode) (k n : ℕ) where
     pub scoped : Scoped forms.keeps way w.scope.names
     pub cut : Cut forms.keeps way w.tree w.params m.facts w.scope.names
     pub upto : UpTo way w.tree w.scope
+
+  -- between two statements
+  abbrev pub Asked : Forms → Way → Where → Mark → Type 0
+  Asked forms way w m = AskedAt 0 forms way w m
 
   -- what is so where pointers are kept: the task is looked at by the rules
   pub record Ruled (way : Way) (w : Where) (m : Mark) : Type 0 where
@@ -134,9 +138,9 @@ module _ (g : Program) (t : TaskCode) (k n : ℕ) where
     pub beside : HavePartsBeside (by_rules tops task) w.params m.slots w.scope.names
     pub scoped : AreScoped w.scope.names w.scope.names
 
-  pub ruled : (forms : Forms) (way : Way) (w : Where) (m : Mark) → Asked forms way w m → forms.keeps ≡ true → Ruled way w m
-  ruled forms way w m a q = of (a.ruled q) a
+  pub ruled : {deep : ℕ} (forms : Forms) (way : Way) (w : Where) (m : Mark) → AskedAt deep forms way w m → forms.keeps ≡ true → Ruled way w m
+  ruled {deep = e} forms way w m a q = of (a.ruled q) a
     where
-      of : {way : Way} → IsByRules way → Asked forms way w m → Ruled way w m
+      of : {way : Way} → IsByRules way → AskedAt e forms way w m → Ruled way w m
       of (is_by_rules tops task) a =
           record { tops = tops; task = task; by = refl; known = a.known; kept = a.ground; facts = a.facts; named = a.ready.named; beside = a.ready.beside; scoped = a.scoped q }

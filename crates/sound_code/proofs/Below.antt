@@ -26,7 +26,7 @@ use Rattle.fit_rules.specs.Fits.{Program}
 use Rattle.sound_code.specs.Named.{slot_at}
 use Rattle.sound_code.specs.Ways.{by_rules, none_begun, opening_facts, Tops, Way}
 use Rattle.fit_laws.proofs.Lookup.{each_among}
-use Rattle.sound_code.proofs.Asked.{AreTops, Asked, Hands, hands_none, hands_taken}
+use Rattle.sound_code.proofs.Asked.{AreTops, AskedAt, Hands, hands_none, hands_taken}
 use Rattle.sound_code.proofs.Cuts.{AreCut, cut_has, CutBy, IsCut}
 use Rattle.sound_code.proofs.Pairs.{paired, pairs_over}
 use Rattle.sound_code.proofs.Parts.{own_named}
@@ -58,7 +58,7 @@ parted_above vs p s t h l q e =
 lies_itself : (vs : List Value) (s : ℕ) → Holds (lies (in_slot s) (in_slot s)) vs
 lies_itself vs s r e = record { other = r; at = e; inside = (refl, λ p y. y) }
 
-module _ (g : Program) (t : TaskCode) (k slots : ℕ) (forms : Forms) (way : Way) (w : Where) (m : Mark) (asked : Asked g t k slots forms way w m) where
+module _ (g : Program) (t : TaskCode) (k slots : ℕ) (forms : Forms) (way : Way) (w : Where) (m : Mark) {deep : ℕ} (asked : AskedAt g t k slots deep forms way w m) where
   module _ (tops : Tops) (task : TaskTree) (y : Taking) (by : way ≡ by_rules tops task) (params : y.params ≡ t.params)
       (within : y.within ≡ pairs_in (scope_of w.tree task).known) (tells : AreTops y t.params (tops task)) (keeps : forms.keeps ≡ true)
       (x : World) (vs st : List Value) (s : Suits x t.params (stacked m []) vs st) where

@@ -62,6 +62,7 @@ use Rattle.sound_code.proofs.Expressions.{converted_marked, integer_is_plain, na
 use Rattle.sound_code.proofs.Filling.{fill_marked}
 use Rattle.sound_code.proofs.Folds.{folded}
 use Rattle.sound_code.proofs.FurtherTargets.{behind_reduced, behind_set, point_reduced, point_set}
+use Rattle.sound_code.proofs.PartTargets.{part_reduced, part_reduced_further, part_set, part_set_further}
 use Rattle.sound_code.proofs.Loops as numbers
 use Rattle.sound_code.proofs.Narrowing.{narrow_itself, narrow_then, narrow_long, narrow_into, fewer_facts}
 use Rattle.sound_code.proofs.Prints.{print_marked}
@@ -330,6 +331,14 @@ module _ (g : Program) (t : TaskCode) (k slots : ℕ) (have : HasSlots t slots) 
         (point_set g t k slots have forms way w m a f.0 x i l e rest y f (asks_first _ _ _ whole) (asks_second _ _ _ whole) (told_head w.tree w.scope way (assign_form x (at_step i (field_step l (field_step e rest))) how.Set y) y refl told) told pc st)
     form_marked w m (assign_form x (at_step i (field_step l (field_step e rest))) (how.Reduce o) y) f whole a told within up pc st = unchanged g t k forms.keeps way w.tree _ _ m _ a.ready a.scoped a.cut
         (point_reduced g t k slots have forms way w m a f.0 x i l e rest o y f (asks_first _ _ _ whole) (asks_second _ _ _ whole) (told_head w.tree w.scope way (assign_form x (at_step i (field_step l (field_step e rest))) (how.Reduce o) y) y refl told) told pc st)
+    form_marked w m (assign_form x (at_step e (at_step i (field_step l no_step))) how.Set y) f whole a told within up pc st = unchanged g t k forms.keeps way w.tree _ _ m _ a.ready a.scoped a.cut
+        (part_set g t k slots have forms way w m a f.0 x e i l y f (asks_first _ _ _ whole) (asks_second _ _ _ whole) (told_head w.tree w.scope way (assign_form x (at_step e (at_step i (field_step l no_step))) how.Set y) y refl told) told pc st)
+    form_marked w m (assign_form x (at_step e (at_step i (field_step l no_step))) (how.Reduce o) y) f whole a told within up pc st = unchanged g t k forms.keeps way w.tree _ _ m _ a.ready a.scoped a.cut
+        (part_reduced g t k slots have forms way w m a f.0 x e i l o y f (asks_first _ _ _ whole) (asks_second _ _ _ whole) (told_head w.tree w.scope way (assign_form x (at_step e (at_step i (field_step l no_step))) (how.Reduce o) y) y refl told) told pc st)
+    form_marked w m (assign_form x (at_step e (at_step i (field_step l (field_step b rest)))) how.Set y) f whole a told within up pc st = unchanged g t k forms.keeps way w.tree _ _ m _ a.ready a.scoped a.cut
+        (part_set_further g t k slots have forms way w m a f.0 x e i l b rest y f (asks_first _ _ _ whole) (asks_second _ _ _ whole) (told_head w.tree w.scope way (assign_form x (at_step e (at_step i (field_step l (field_step b rest)))) how.Set y) y refl told) told pc st)
+    form_marked w m (assign_form x (at_step e (at_step i (field_step l (field_step b rest)))) (how.Reduce o) y) f whole a told within up pc st = unchanged g t k forms.keeps way w.tree _ _ m _ a.ready a.scoped a.cut
+        (part_reduced_further g t k slots have forms way w m a f.0 x e i l b rest o y f (asks_first _ _ _ whole) (asks_second _ _ _ whole) (told_head w.tree w.scope way (assign_form x (at_step e (at_step i (field_step l (field_step b rest)))) (how.Reduce o) y) y refl told) told pc st)
     form_marked w m _ f whole a told within up pc st = absurd f
 
     arms_marked : (own w : Where) (m : Mark) (arms : Arms) (other : Piece) → AreTypedArms forms own w arms → Asks forms.keeps (are_whole_arms true own w arms) → At own m →

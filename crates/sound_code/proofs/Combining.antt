@@ -19,7 +19,7 @@ use Rattle.fit_laws.proofs.Held.{none_held, plain_held}
 use Rattle.fit_laws.proofs.Keeping.{are_first, are_others, get_set, get_other, set_mark, stores_behind}
 use Rattle.fit_laws.proofs.Lookup.{value_at, as_long}
 use Rattle.marked_code.specs.Marked.{leads_on, leads_storing, Typed, typed_empty, typed_op, typed_both, typed_into}
-use Rattle.sound_code.specs.Named.{slot_at, Ready, loops_in}
+use Rattle.sound_code.specs.Named.{slot_at, Ready, loops_in, ReadyAt}
 use Rattle.sound_code.specs.Ways.{Way}
 use Rattle.sound_code.proofs.Narrowing.{set_kept}
 use Rattle.sound_code.proofs.Plain.{numeric_plain}
@@ -77,7 +77,7 @@ slot_next params p h = omega (arith, h)
 abbrev pub Keeps : Mark → ℕ → Type 0
 Keeps m s = (vs : List Value) (v : Value) → Each (λ k. Holds k vs) m.facts → Each (λ k. Holds k (slice_set vs s v)) m.facts
 
-pub behind_kept : (way : Way) (params : ℕ) (bs : List Bound) (m : Mark) (s : ℕ) → Ready way params bs m → slot_at params (length bs) ≤ s → Keeps m s
+pub behind_kept : {deep : ℕ} (way : Way) (params : ℕ) (bs : List Bound) (m : Mark) (s : ℕ) → ReadyAt deep way params bs m → slot_at params (length bs) ≤ s → Keeps m s
 behind_kept way params bs m s r h vs v k =
     let same = behind_same params (length bs) s vs v r.low h in
     steady_holds params (length bs) r.low (loops_in way bs) vs (slice_set vs s v) same.0 same.1

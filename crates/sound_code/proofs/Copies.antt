@@ -91,6 +91,8 @@ module _ (forms : Forms) (w : Where) where
   pointing_copy (access_expr n (at_step e (field_step a (field_step b rest)))) p h f c =
       absurd (there (typed w (access_expr n (at_step e (field_step a (field_step b rest))))) h c)
   pointing_copy (access_expr n (field_step a (field_step b rest))) p h f c = absurd (there (typed w (access_expr n (field_step a (field_step b rest)))) h c)
+  pointing_copy (access_expr n (at_step e (at_step i (field_step a rest)))) p h f c =
+      absurd (there (typed w (access_expr n (at_step e (at_step i (field_step a rest))))) h c)
   pointing_copy _ p h f c = absurd h
 
   begun_copy : (b : Bool) (e : Expression) → IsKeepable b w e → IsTyped forms w e → names_child (reaches_of (typed w e)) ≡ true → IsCopy w e

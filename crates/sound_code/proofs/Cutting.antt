@@ -33,7 +33,7 @@ use Rattle.fit_rules.specs.Fits.{Program}
 use Rattle.fit_rules.specs.Sound.{Allowed, does_colors, does_load_as, HasPartition, HasRegion, settled_cut, settled_region}
 use Rattle.marked_code.specs.Marked.{Leads, leads_child, leads_colouring, leads_cutting, leads_image, leads_join, leads_meet, leads_minus, leads_preimage, leads_storing, typed_from, typed_op}
 use Rattle.sound_code.specs.Ways.{shape_in, shape_of, Way}
-use Rattle.sound_code.proofs.Asked.{Asked}
+use Rattle.sound_code.proofs.Asked.{AskedAt}
 use Rattle.sound_code.proofs.Colours.{child_taken, IsUnder, stays_at}
 use Rattle.sound_code.proofs.Combining.{both, does, into, Keeps, Marked, nothing_done}
 
@@ -379,7 +379,7 @@ module _ (g : Program) (t : TaskCode) (k line : ℕ) (m : Mark) where
       (leads_preimage (knowing (lies (in_slot s) (in_slot r)) (stacked m [])) s p r f sp sq so d (record { origin = hs.origin; shape = hs.shape }) hp
       (allowed_knowing (lies (in_slot s) (in_slot r)) sp r f h) (inl refl))
 
-module _ (g : Program) (t : TaskCode) (k slots : ℕ) (forms : Forms) (way : Way) (w : Where) (m : Mark) (asked : Asked g t k slots forms way w m) where
+module _ (g : Program) (t : TaskCode) (k slots : ℕ) (forms : Forms) (way : Way) (w : Where) (m : Mark) {deep : ℕ} (asked : AskedAt g t k slots deep forms way w m) where
   pub colours_marked : (d : ℕ) (x f : Name) (us : List Shape) (u : StaticType) (place : ℕ) → IsPartition u →
       slice_get m.slots (slot w place) ≡ Some (shape_in way w.params u) →
       Marked g t k (stacked m us) (load_code w u (slot w place) (field_step f no_step) ⨟ steps_code w d u (own_slot w u place) (field_step f no_step))

@@ -15,7 +15,7 @@ use Rattle.regent_tree.specs.declared.typing.StaticType.{StaticType}
 use Rattle.regent_tree.specs.declared.typing.StaticType.TheVariants.{Integer as integer_type, Truth as truth_type}
 use Rattle.regent_tree.specs.StaticTypes.{task_named}
 use Rattle.regent_tree.specs.Syntax.{Name, Expression, number_expr, truth_expr, chain_expr, prefix_expr, access_expr, call_expr, convert_expr, space_expr, Expressions, no_expr, an_expr, Links, no_link, a_link, no_step, field_step, at_step, is_null_expr, null_expr, cast_expr}
-use Rattle.regent_tree.specs.Typing.{linked_type, param_types, params_at, signed_type}
+use Rattle.regent_tree.specs.Typing.{linked_type, type_of_element, param_types, params_at, signed_type}
 use Rattle.regent_tree.specs.Values.{kept_truth}
 use Rattle.task_code.specs.declared.code.TaskCode.{TaskCode}
 use Rattle.task_code.specs.declared.instr.Instr.TheVariants as instr
@@ -34,7 +34,7 @@ use Rattle.fit_rules.specs.Fits.{Program}
 use Rattle.fit_rules.specs.Sound.{does_num, does_load, does_negate, does_invert, does_space}
 use Rattle.marked_code.specs.Marked.{leads_waiting, typed_op, typed_and, typed_or}
 use Rattle.fit_laws.proofs.Keeping.{get_set, set_mark}
-use Rattle.sound_code.specs.Named.{slot_at, HasSlots, loops_in}
+use Rattle.sound_code.specs.Named.{slot_at, HasSlots, IsFreeFrom, loops_in}
 use Rattle.sound_code.specs.Ways.{Way, shape_of}
 use Rattle.sound_code.proofs.Granting.{allowed, May}
 use Rattle.sound_code.proofs.WholeTasks.{are_whole_arguments, are_whole_links, is_whole_expression, names_region, takes_part}
@@ -55,11 +55,12 @@ use Rattle.regent_tree.specs.declared.rights.Access.{Access}
 use Rattle.regent_tree.specs.declared.rights.Access.TheVariants.{Read}
 use Rattle.fit_rules.specs.Sound.{Allowed}
 use Rattle.code_laws.specs.Typed.{IsAnyField}
-use Rattle.sound_code.proofs.Asked.{Asked}
+use Rattle.sound_code.proofs.Asked.{Asked, AskedAt}
 use Rattle.sound_code.proofs.Calling.{onto, scalar_numeric, zero_numeric}
 use Rattle.sound_code.proofs.Combining.{Marked, nothing_done, both, does, into, behind_kept, slot_high, storing}
 use Rattle.sound_code.proofs.Elements.{reads}
 use Rattle.sound_code.proofs.Further.{behind_further, point_further, told_point}
+use Rattle.sound_code.proofs.PartElements.{asked_put, element_put, part_space, part_put, put_away, put_fields, put_mark, put_room, spare_free, told_first, told_second}
 use Rattle.sound_code.proofs.Narrowing.{narrow_itself, narrow_set, narrow_over, same_facts}
 use Rattle.fit_laws.proofs.Numbers.{truth_is}
 
@@ -105,7 +106,7 @@ part_asked : (w : Where) (e : Expression) (n : Name) (i : Expression) → e ≡ 
 part_asked w e n i same h = ⊎_elim (λ r. absurd (false≢true (subst (λ y. names_region w y ≡ true) same r))) (λ q. q) (or_cases (names_region w e) _ h)
 
 module _ (g : Program) (t : TaskCode) (k slots : ℕ) (have : HasSlots t slots) (forms : Forms) (way : Way) (w : Where) (m : Mark)
-    (asked : Asked g t k slots forms way w m) where
+    {deep : ℕ} (asked : AskedAt g t k slots deep forms way w m) where
   -- code that leads from one stack to another
   abbrev Goes : List Shape → Piece → List Shape → Type 0
   Goes us p vs = Marked g t k (stacked m us) p (stacked m vs)
@@ -148,9 +149,9 @@ module _ (g : Program) (t : TaskCode) (k slots : ℕ) (have : HasSlots t slots) 
   and_marked us p f = record { marks = _; is = typed_and (stacked m (truth ∷ us)) truth us w.line p _ refl numeric_truth f.is }
 
   -- a result that may be pending is put aside, and waited for
-  awaited_marked : (s : ℕ) (r : Shape) (us : List Shape) → Numeric r → slot_at w.params (length w.scope.names) ≤ s →
+  awaited_marked : (s : ℕ) (r : Shape) (us : List Shape) → Numeric r → IsFreeFrom deep (slot_at w.params (length w.scope.names)) s → slot_at w.params (length w.scope.names) ≤ s →
       s < length m.slots → Goes (awaited r ∷ us) (one w (instr.Store s) ⨟ one w (instr.Load s)) (r ∷ us)
-  awaited_marked s r us nr low hi =
+  awaited_marked s r us nr clear low hi =
       let ready = asked.ready in
       let high = slot_high w.params (length w.scope.names) ready.low in
       into g t k (both g t k
@@ -162,7 +163,7 @@ module _ (g : Program) (t : TaskCode) (k slots : ℕ) (have : HasSlots t slots) 
             (steady_stand w.params (length w.scope.names) (loops_in way w.scope.names) _ m.facts ready.facts));
       }))
       (narrow_over t.params (set_mark m s (awaited r) us) m (r ∷ us) refl
-      (narrow_set m.slots m.slots s (awaited r) (narrow_itself m.slots) (inl (ready.free s low hi))) (same_facts _ _ refl))
+      (narrow_set m.slots m.slots s (awaited r) (narrow_itself m.slots) (inl (ready.free s clear hi))) (same_facts _ _ refl))
       (sym (length-set m.slots s (awaited r)))
 
   -- an access to a field through a name that the rules grant
@@ -197,152 +198,189 @@ module _ (g : Program) (t : TaskCode) (k slots : ℕ) (have : HasSlots t slots) 
       (subst (λ s. Goes us (expr_code w d (access_expr n no_step)) (s ∷ us)) (sym (cut_handed way w n p is ∙ given_cut_is way w (bound w n).static_type named.partition))
       (cut_code g t k slots forms way w m asked n keeps named d us))
 
+module _ (g : Program) (t : TaskCode) (k slots : ℕ) (have : HasSlots t slots) (forms : Forms) (way : Way) (w : Where) where
+  abbrev GoesAt : Mark → List Shape → Piece → List Shape → Type 0
+  GoesAt m us p vs = Marked g t k (stacked m us) p (stacked m vs)
+
   mutual
-    pub expr_marked : (d : ℕ) (e : Expression) (us : List Shape) → IsTyped forms w e → Asks forms.keeps (is_whole_expression true w e) →
-        Told way w.tree w.scope e → (pc : ℕ) → Stands t.body pc (expr_code w d e) → Goes us (expr_code w d e) (shape_of (typed w e) ∷ us)
-    expr_marked d (number_expr z v) us fine whole told pc st = does g t k _ (instr.Num z) w.line _ (does_num z (integer v) us fine)
-    expr_marked d (truth_expr b) us fine whole told pc st = does g t k _ (instr.Num (kept_truth b)) w.line _ (does_num _ truth us (truth_is b))
-    expr_marked d (access_expr x no_step) us fine whole told pc st =
+    pub expr_at : {deep : ℕ} (m : Mark) (asked : AskedAt g t k slots deep forms way w m) (d : ℕ) → deep ≤ d → (e : Expression) (us : List Shape) → IsTyped forms w e → Asks forms.keeps (is_whole_expression true w e) →
+        Told way w.tree w.scope e → (pc : ℕ) → Stands t.body pc (expr_code w d e) → GoesAt m us (expr_code w d e) (shape_of (typed w e) ∷ us)
+    expr_at m asked d within (number_expr z v) us fine whole told pc st = does g t k _ (instr.Num z) w.line _ (does_num z (integer v) us fine)
+    expr_at m asked d within (truth_expr b) us fine whole told pc st = does g t k _ (instr.Num (kept_truth b)) w.line _ (does_num _ truth us (truth_is b))
+    expr_at m asked d within (access_expr x no_step) us fine whole told pc st =
         let is = read_worth forms.keeps _ fine.1 whole in
         let h = named_at way w.params m.slots w.scope.names x asked.ready.named fine.0 ∙ ap Some (worth_named way w.params _ is) in
         both g t k (does g t k _ (instr.Load (slot_named w x)) w.line _ (does_load _ _ us h (worth_settled _ is) (plain_shape _))) (nothing_done g t k _)
-    expr_marked d (access_expr x (at_step e (field_step f no_step))) us fine whole told pc st =
+    expr_at m asked d within (access_expr x (at_step e (field_step f no_step))) us fine whole told pc st =
         let field = any_field forms.keeps w x f _ fine.3 in
         let number = counting forms.keeps _ fine.1 in
         let h = named_at way w.params m.slots w.scope.names x asked.ready.named field.named in
         reads g t k way w m asked.known (bound w x).static_type (bound w x).place e f no_step _ d us _ field.region
         (region_named way w.params m (slot_named w x) (bound w x).static_type field.region h) number fine.2
-        (touched x f _ Read field (may_read w x e f number field.region t way asked.ground told))
-        field.keeps (λ q s. expr_marked d e us fine.0 whole (told_element w.tree w.scope way x e f told) q s) (nothing_done g t k _) pc st
-    expr_marked d (prefix_expr signs e) us fine whole told pc st =
-        both g t k (expr_marked d e us fine.0 whole (told_prefix w.tree w.scope way signs e told) pc st.0)
-        (prefix_marked (typed w e) signs us (signed_as forms.keeps _ signs fine.1))
-    expr_marked d (chain_expr first rest) us fine whole told pc st =
+        (touched g t k slots have forms way w m asked x f _ Read field (may_read w x e f number field.region t way asked.ground told))
+        field.keeps (λ q s. expr_at m asked d within e us fine.0 whole (told_element w.tree w.scope way x e f told) q s) (nothing_done g t k _) pc st
+    expr_at m asked d within (prefix_expr signs e) us fine whole told pc st =
+        both g t k (expr_at m asked d within e us fine.0 whole (told_prefix w.tree w.scope way signs e told) pc st.0)
+        (prefix_marked g t k slots have forms way w m asked (typed w e) signs us (signed_as forms.keeps _ signs fine.1))
+    expr_at m asked d within (chain_expr first rest) us fine whole told pc st =
         let parts = told_chain w.tree w.scope way first rest told in
-        both g t k (expr_marked d first us fine.0 (asks_first _ _ _ whole) parts.0 pc st.0)
-        (links_marked d (typed w first) rest us fine.1 (asks_second _ _ _ whole) parts.1 _ st.1)
-    expr_marked d (call_expr task args) us fine whole told pc st =
+        both g t k (expr_at m asked d within first us fine.0 (asks_first _ _ _ whole) parts.0 pc st.0)
+        (links_at m asked d within (typed w first) rest us fine.1 (asks_second _ _ _ whole) parts.1 _ st.1)
+    expr_at m asked d within (call_expr task args) us fine whole told pc st =
         let u = task_named w.tree task in
         let place = place_of_task w.tree task in
         let types = param_types w.tree u in
         let same = asked.known.results place u fine.2.0 in
         let nr : Numeric (g.results place) = subst Numeric (sym same) (zero_numeric _ fine.1) in
-        subst (λ y. Goes us (expr_code w d (call_expr task args)) (y ∷ us)) same
-        (both g t k (args_marked d (params_at w.tree w.scope u args) types args us fine.3 whole (told_call w.tree w.scope way task args told) pc st.0)
+        subst (λ y. GoesAt m us (expr_code w d (call_expr task args)) (y ∷ us)) same
+        (both g t k (args_at m asked d within (params_at w.tree w.scope u args) types args us fine.3 whole (told_call w.tree w.scope way task args told) pc st.0)
         (both g t k (calls g t k slots forms way w m asked task (params_at w.tree w.scope u args) args us fine.2 fine.3 whole (told_called w.tree w.scope way task args told))
-        (awaited_marked (spare w d) (g.results place) us nr (omega arith) (stored _ (spare w d) st.1.1.0))))
-    expr_marked d (convert_expr c e) us fine whole told pc st =
+        (awaited_marked g t k slots have forms way w m asked (spare w d) (g.results place) us nr (spare_free _ d (slot_at w.params (length w.scope.names)) within) (omega arith) (stored g t k slots have forms way w m asked _ (spare w d) st.1.1.0))))
+    expr_at m asked d within (convert_expr c e) us fine whole told pc st =
         let number = counting forms.keeps _ fine.1 in
-        both g t k (expr_marked d e us fine.0 whole (told_convert w.tree w.scope way c e told) pc st.0)
+        both g t k (expr_at m asked d within e us fine.0 whole (told_convert w.tree w.scope way c e told) pc st.0)
         (both g t k (standing_counted g t k w m (typed w e) us number) (number_counted g t k w m c (typed w e) us number (converting forms.keeps c fine.2)))
-    expr_marked d (space_expr c e) us fine whole told pc st = both g t k (expr_marked d e us fine.0 whole (told_space w.tree w.scope way c e told) pc st.0)
+    expr_at m asked d within (space_expr c e) us fine whole told pc st = both g t k (expr_at m asked d within e us fine.0 whole (told_space w.tree w.scope way c e told) pc st.0)
         (does g t k (stacked m (shape_of (typed w e) ∷ us)) instr.Space w.line (space ∷ us)
         (does_space _ us (scalar_numeric _ (integer_is_plain _ fine.1))))
-    expr_marked d (access_expr x (field_step f no_step)) us fine whole told pc st = ⊎_elim
+    expr_at m asked d within (access_expr x (field_step f no_step)) us fine whole told pc st = ⊎_elim
         (λ a. behind_marked g t k slots forms way w m asked d x f no_step us _ fine.0 a.0 told (nothing_done g t k _)) (λ c.
         colours_marked g t k slots forms way w m asked d x f us (bound w x).static_type (bound w x).place c.partition
         (named_at way w.params m.slots w.scope.names x asked.ready.named c.named)) fine.1
-    expr_marked d (access_expr x (at_step e no_step)) us fine whole told pc st =
+    expr_at m asked d within (access_expr x (at_step e no_step)) us fine whole told pc st =
         let h = named_at way w.params m.slots w.scope.names x asked.ready.named fine.3 in
         element_at g t k slots forms way w m asked (bound w x).static_type (bound w x).place d e us fine.4
         (region_named way w.params m (slot_named w x) (bound w x).static_type fine.4 h) fine.2
-        (λ q s. expr_marked d e us fine.1 (asks_second _ _ _ whole) (told_at w.tree w.scope way x e told) q s) pc st
-    expr_marked d (is_null_expr e) us fine whole told pc st = both g t k (expr_marked d e us fine.2 whole (told_is_null w.tree w.scope way e told) pc st.0)
+        (λ q s. expr_at m asked d within e us fine.1 (asks_second _ _ _ whole) (told_at w.tree w.scope way x e told) q s) pc st
+    expr_at m asked d within (is_null_expr e) us fine whole told pc st = both g t k (expr_at m asked d within e us fine.2 whole (told_is_null w.tree w.scope way e told) pc st.0)
         (null_asked g t k slots forms way w m asked (typed w e) us fine.1)
-    expr_marked d (null_expr p) us fine whole told pc st = null_marked g t k slots forms way w m asked (typed w (null_expr p)) us fine.1.0
-    expr_marked d (cast_expr p e) us fine whole told pc st =
+    expr_at m asked d within (null_expr p) us fine whole told pc st = null_marked g t k slots forms way w m asked (typed w (null_expr p)) us fine.1.0
+    expr_at m asked d within (cast_expr p e) us fine whole told pc st =
         let v = typed w (cast_expr p e) in
-        both g t k (expr_marked d e us fine.3 (asks_second _ _ _ whole) (told_cast w.tree w.scope way p e told) pc st.0)
+        both g t k (expr_at m asked d within e us fine.3 (asks_second _ _ _ whole) (told_cast w.tree w.scope way p e told) pc st.0)
         (cast_marked g t k slots forms way w m asked (typed w e) v us fine.2 fine.1.0 fine.1.1 fine.4 (worth_few v (value_worth v (asks_first _ _ _ whole fine.0))))
-    expr_marked d (access_expr x (field_step f (field_step l rest))) us fine whole told pc st =
+    expr_at m asked d within (access_expr x (field_step f (field_step l rest))) us fine whole told pc st =
         behind_further g t k slots forms way w m asked fine.0 d x f (field_step l rest) us fine.1 fine.3 told
-    expr_marked d (access_expr x (at_step e (field_step f (field_step l rest)))) us fine whole told pc st =
+    expr_at m asked d within (access_expr x (at_step e (field_step f (field_step l rest)))) us fine whole told pc st =
         let field = any_field forms.keeps w x f _ fine.4 in
         let number = counting forms.keeps _ fine.2 in
         let h = named_at way w.params m.slots w.scope.names x asked.ready.named field.named in
         let first = told_point w.tree w.scope way x e f (field_step l rest) told in
         reads g t k way w m asked.known (bound w x).static_type (bound w x).place e f (field_step l rest) _ d us _ field.region
         (region_named way w.params m (slot_named w x) (bound w x).static_type field.region h) number fine.3
-        (touched x f _ Read field (may_read w x e f number field.region t way asked.ground first))
-        field.keeps (λ q s. expr_marked d e us fine.1 whole (told_element w.tree w.scope way x e f first) q s)
+        (touched g t k slots have forms way w m asked x f _ Read field (may_read w x e f number field.region t way asked.ground first))
+        field.keeps (λ q s. expr_at m asked d within e us fine.1 whole (told_element w.tree w.scope way x e f first) q s)
         (point_further g t k slots forms way w m asked fine.0 (suc d) x e f (field_step l rest) us fine.6 told) pc st
-    expr_marked d _ us fine whole told pc st = absurd fine
+    expr_at m asked d within (access_expr x (at_step e (at_step i no_step))) us fine whole told pc st =
+        let hi = put_room g t k slots have forms way w m asked x d (bound w x).static_type e i no_step fine.1.0.partition pc st in
+        put_away g t k slots have forms way w m asked x fine.0 fine.1.0 d within us _ _ hi
+        (part_put g t k slots have forms way w m asked x fine.0 fine.1.0 d within us _ (bound w x).static_type e i no_step fine.1.0.partition fine.2.1
+        (λ q s. expr_at m asked d within e us fine.2.0 (asks_first _ _ _ whole) (told_first w.tree w.scope way x e (at_step i no_step) told) q s)
+        (λ q hi s. element_put g t k slots have forms way w m asked x fine.0 fine.1.0 d within us _ (type_of_element w.scope (bound w x).static_type e) i no_step hi
+        fine.1.2 (part_space w x e fine.1) fine.3.1
+        (λ q s. expr_at (put_mark g t k slots have forms way w m asked x fine.0 fine.1.0 d within)
+        (asked_put g t k slots have forms way w m asked x fine.0 fine.1.0 d within hi) (suc d) (omega arith) i us fine.3.0 (asks_second _ _ _ whole)
+        (told_second w.tree w.scope way x e i no_step told) q s) (nothing_done g t k _) q s) pc st)
+    expr_at m asked d within (access_expr x (at_step e (at_step i (field_step f rest)))) us fine whole told pc st =
+        let hi = put_room g t k slots have forms way w m asked x d (bound w x).static_type e i (field_step f rest) fine.1.0.partition pc st in
+        put_away g t k slots have forms way w m asked x fine.0 fine.1.0 d within us _ _ hi
+        (part_put g t k slots have forms way w m asked x fine.0 fine.1.0 d within us _ (bound w x).static_type e i (field_step f rest) fine.1.0.partition fine.2.1
+        (λ q s. expr_at m asked d within e us fine.2.0 (asks_first _ _ _ whole) (told_first w.tree w.scope way x e (at_step i (field_step f rest)) told) q s)
+        (λ q hi s. element_put g t k slots have forms way w m asked x fine.0 fine.1.0 d within us _ (type_of_element w.scope (bound w x).static_type e) i (field_step f rest) hi
+        fine.1.2 (part_space w x e fine.1) fine.3.1
+        (λ q s. expr_at (put_mark g t k slots have forms way w m asked x fine.0 fine.1.0 d within)
+        (asked_put g t k slots have forms way w m asked x fine.0 fine.1.0 d within hi) (suc d) (omega arith) i us fine.3.0 (asks_second _ _ _ whole)
+        (told_second w.tree w.scope way x e i (field_step f rest) told) q s)
+        (put_fields g t k slots have forms way w m asked x fine.0 fine.1.0 d within us e i f rest hi fine.1 fine.4 fine.5 told) q s) pc st)
+    expr_at m asked d within _ us fine whole told pc st = absurd fine
 
-    pub links_marked : (d : ℕ) (u : StaticType) (ls : Links) (us : List Shape) → AreTypedLinks forms w u ls → Asks forms.keeps (are_whole_links true w ls) →
+    pub links_at : {deep : ℕ} (m : Mark) (asked : AskedAt g t k slots deep forms way w m) (d : ℕ) → deep ≤ d → (u : StaticType) (ls : Links) (us : List Shape) → AreTypedLinks forms w u ls → Asks forms.keeps (are_whole_links true w ls) →
         ToldLinks way w.tree w.scope ls → (pc : ℕ) → Stands t.body pc (links_code w d u ls) →
-        Goes (shape_of u ∷ us) (links_code w d u ls) (shape_of (linked_type w.tree w.scope u ls) ∷ us)
-    links_marked d u no_link us fine whole told pc st = nothing_done g t k _
-    links_marked d u (a_link Or e rest) us fine whole told pc st =
+        GoesAt m (shape_of u ∷ us) (links_code w d u ls) (shape_of (linked_type w.tree w.scope u ls) ∷ us)
+    links_at m asked d within u no_link us fine whole told pc st = nothing_done g t k _
+    links_at m asked d within u (a_link Or e rest) us fine whole told pc st =
         let parts = told_link w.tree w.scope way Or e rest told in
-        subst (λ y. Goes (y ∷ us) (links_code w d u (a_link Or e rest)) (shape_of (linked_type w.tree w.scope truth_type rest) ∷ us))
+        subst (λ y. GoesAt m (y ∷ us) (links_code w d u (a_link Or e rest)) (shape_of (linked_type w.tree w.scope truth_type rest) ∷ us))
         (sym (truth_shape u fine.0))
-        (both g t k (or_marked us (expr_code w d e) (subst (λ y. Goes us (expr_code w d e) (y ∷ us))
-        (truth_shape _ fine.1) (expr_marked d e us fine.2 (asks_first _ _ _ whole) parts.0 _ st.0.1)))
-        (links_marked d truth_type rest us fine.3 (asks_second _ _ _ whole) parts.1 _ st.1))
-    links_marked d u (a_link And e rest) us fine whole told pc st =
+        (both g t k (or_marked g t k slots have forms way w m asked us (expr_code w d e) (subst (λ y. GoesAt m us (expr_code w d e) (y ∷ us))
+        (truth_shape _ fine.1) (expr_at m asked d within e us fine.2 (asks_first _ _ _ whole) parts.0 _ st.0.1)))
+        (links_at m asked d within truth_type rest us fine.3 (asks_second _ _ _ whole) parts.1 _ st.1))
+    links_at m asked d within u (a_link And e rest) us fine whole told pc st =
         let parts = told_link w.tree w.scope way And e rest told in
-        subst (λ y. Goes (y ∷ us) (links_code w d u (a_link And e rest)) (shape_of (linked_type w.tree w.scope truth_type rest) ∷ us))
+        subst (λ y. GoesAt m (y ∷ us) (links_code w d u (a_link And e rest)) (shape_of (linked_type w.tree w.scope truth_type rest) ∷ us))
         (sym (truth_shape u fine.0))
-        (both g t k (and_marked us (expr_code w d e) (subst (λ y. Goes us (expr_code w d e) (y ∷ us))
-        (truth_shape _ fine.1) (expr_marked d e us fine.2 (asks_first _ _ _ whole) parts.0 _ st.0.1)))
-        (links_marked d truth_type rest us fine.3 (asks_second _ _ _ whole) parts.1 _ st.1))
-    links_marked d u (a_link (Compute c) e rest) us fine whole told pc st =
+        (both g t k (and_marked g t k slots have forms way w m asked us (expr_code w d e) (subst (λ y. GoesAt m us (expr_code w d e) (y ∷ us))
+        (truth_shape _ fine.1) (expr_at m asked d within e us fine.2 (asks_first _ _ _ whole) parts.0 _ st.0.1)))
+        (links_at m asked d within truth_type rest us fine.3 (asks_second _ _ _ whole) parts.1 _ st.1))
+    links_at m asked d within u (a_link (Compute c) e rest) us fine whole told pc st =
         let parts = told_link w.tree w.scope way (Compute c) e rest told in
         let one = counting forms.keeps u fine.0 in
         let two = counting forms.keeps (typed w e) fine.1 in
         both g t k (standing_counted g t k w m u us one)
-        (both g t k (expr_marked d e _ fine.2 (asks_first _ _ _ whole) parts.0 _ st.1.0)
+        (both g t k (expr_at m asked d within e _ fine.2 (asks_first _ _ _ whole) parts.0 _ st.1.0)
         (both g t k (standing_counted g t k w m (typed w e) _ two)
         (both g t k (compute_counted g t k w m c u (typed w e) us one two)
-        (links_marked d _ rest us fine.3 (asks_second _ _ _ whole) parts.1 _ st.1.1.1.1))))
-    links_marked d u (a_link (Compare c) e rest) us fine whole told pc st =
+        (links_at m asked d within _ rest us fine.3 (asks_second _ _ _ whole) parts.1 _ st.1.1.1.1))))
+    links_at m asked d within u (a_link (Compare c) e rest) us fine whole told pc st =
         let parts = told_link w.tree w.scope way (Compare c) e rest told in
         let h = compares g t k w m c u (typed w e) (compared forms.keeps c u (typed w e) fine.0) in
         both g t k (h.first us)
-        (both g t k (expr_marked d e _ fine.1 (asks_first _ _ _ whole) parts.0 _ st.1.0)
+        (both g t k (expr_at m asked d within e _ fine.1 (asks_first _ _ _ whole) parts.0 _ st.1.0)
         (both g t k (h.second _)
         (both g t k (h.compared us)
-        (links_marked d _ rest us fine.2 (asks_second _ _ _ whole) parts.1 _ st.1.1.1.1))))
+        (links_at m asked d within _ rest us fine.2 (asks_second _ _ _ whole) parts.1 _ st.1.1.1.1))))
 
     -- what stands for the colour of a part
-    index_marked : (d : ℕ) (us : List Shape) (e : Expression) (n : Name) (i : Expression) → e ≡ access_expr n (at_step i no_step) → IsTyped forms w i →
+    index_at : {deep : ℕ} (m : Mark) (asked : AskedAt g t k slots deep forms way w m) (d : ℕ) → deep ≤ d → (us : List Shape) (e : Expression) (n : Name) (i : Expression) → e ≡ access_expr n (at_step i no_step) → IsTyped forms w i →
         Asks forms.keeps (is_whole_expression true w i) → Told way w.tree w.scope i → (pc : ℕ) → Stands t.body pc (expr_code w d i) →
-        Goes us (expr_code w d i) (shape_of (typed w i) ∷ us)
-    index_marked d us (access_expr x (at_step j no_step)) n i same fine whole told pc st =
+        GoesAt m us (expr_code w d i) (shape_of (typed w i) ∷ us)
+    index_at m asked d within us (access_expr x (at_step j no_step)) n i same fine whole told pc st =
         subst (λ y. IsTyped forms w y → Asks forms.keeps (is_whole_expression true w y) → Told way w.tree w.scope y → (pc : ℕ) → Stands t.body pc (expr_code w d y) →
-        Goes us (expr_code w d y) (shape_of (typed w y) ∷ us)) (ap index_in same)
-        (λ f h o q s. expr_marked d j us f h o q s) fine whole told pc st
-    index_marked d us _ n i same fine whole told pc st = absurd (false≢true (ap takes_index same))
+        GoesAt m us (expr_code w d y) (shape_of (typed w y) ∷ us)) (ap index_in same)
+        (λ f h o q s. expr_at m asked d within j us f h o q s) fine whole told pc st
+    index_at m asked d within us _ n i same fine whole told pc st = absurd (false≢true (ap takes_index same))
 
     -- arguments of parameters of these types
-    pub args_marked : (d : ℕ) (ts ps : List StaticType) (es : Expressions) (us : List Shape) → ArePassed forms w ts ps es → Asks forms.keeps (are_whole_arguments true w ps es) →
-        ToldArgs way w.tree w.scope es → (pc : ℕ) → Stands t.body pc (exprs_code w d ts es) → Goes us (exprs_code w d ts es) (onto (all_handed way w ps es) us)
-    args_marked d [] [] no_expr us fine whole told pc st = nothing_done g t k _
-    args_marked d (u ∷ ts) (p ∷ ps) (an_expr e es) us fine whole told pc st =
+    pub args_at : {deep : ℕ} (m : Mark) (asked : AskedAt g t k slots deep forms way w m) (d : ℕ) → deep ≤ d → (ts ps : List StaticType) (es : Expressions) (us : List Shape) → ArePassed forms w ts ps es → Asks forms.keeps (are_whole_arguments true w ps es) →
+        ToldArgs way w.tree w.scope es → (pc : ℕ) → Stands t.body pc (exprs_code w d ts es) → GoesAt m us (exprs_code w d ts es) (onto (all_handed way w ps es) us)
+    args_at m asked d within [] [] no_expr us fine whole told pc st = nothing_done g t k _
+    args_at m asked d within (u ∷ ts) (p ∷ ps) (an_expr e es) us fine whole told pc st =
         let parts = told_arg w.tree w.scope way e es told in
         given_whole forms.keeps forms.takes w u p e (IsTyped forms w e) (IsIndexed forms w e)
-        (Goes us (exprs_code w d (u ∷ ts) (an_expr e es)) (onto (all_handed way w (p ∷ ps) (an_expr e es)) us)) (asks_first _ _ _ whole)
-        (λ enters is. both g t k (expr_marked d e us is (whole_argument forms.keeps w p e (asks_first _ _ _ whole) enters.worth enters.other (part_untyped forms w e is)) parts.0 pc st.0)
-        (both g t k (subst (λ y. Goes (shape_of (typed w e) ∷ us) (converted_code w (typed w e) u) (y ∷ us))
+        (GoesAt m us (exprs_code w d (u ∷ ts) (an_expr e es)) (onto (all_handed way w (p ∷ ps) (an_expr e es)) us)) (asks_first _ _ _ whole)
+        (λ enters is. both g t k (expr_at m asked d within e us is (whole_argument forms.keeps w p e (asks_first _ _ _ whole) enters.worth enters.other (part_untyped forms w e is)) parts.0 pc st.0)
+        (both g t k (subst (λ y. GoesAt m (shape_of (typed w e) ∷ us) (converted_code w (typed w e) u) (y ∷ us))
         (enters.same ∙ sym (worth_handed way w p e enters.worth))
-        (converted_marked (typed w e) u us enters.goes enters.few))
-        (args_marked d ts ps es (handed way w p e ∷ us) fine.1 (asks_second _ _ _ whole) parts.1 _ st.1.1)))
+        (converted_marked g t k slots have forms way w m asked (typed w e) u us enters.goes enters.few))
+        (args_at m asked d within ts ps es (handed way w p e ∷ us) fine.1 (asks_second _ _ _ whole) parts.1 _ st.1.1)))
         (λ y takes h. both g t k (handed_marked g t k slots forms way w m asked y takes d u p e us h)
-        (both g t k (subst (λ q. Goes (handed way w p e ∷ us) q (handed way w p e ∷ us)) (sym (handed_unconverted w y u p e h)) (nothing_done g t k _))
-        (args_marked d ts ps es (handed way w p e ∷ us) fine.1 (asks_second _ _ _ whole) parts.1 _ st.1.1)))
-        (λ keeps a. both g t k (part_passed d us p e (typed w e) a.name a.index a.is keeps a.cut a.regions (subst (IsIndexed forms w) a.is a.part).0
+        (both g t k (subst (λ q. GoesAt m (handed way w p e ∷ us) q (handed way w p e ∷ us)) (sym (handed_unconverted w y u p e h)) (nothing_done g t k _))
+        (args_at m asked d within ts ps es (handed way w p e ∷ us) fine.1 (asks_second _ _ _ whole) parts.1 _ st.1.1)))
+        (λ keeps a. both g t k (part_passed g t k slots have forms way w m asked d us p e (typed w e) a.name a.index a.is keeps a.cut a.regions (subst (IsIndexed forms w) a.is a.part).0
         (subst (IsIndexed forms w) a.is a.part).1
-        (λ q s. index_marked d us e a.name a.index a.is (subst (IsIndexed forms w) a.is a.part).0
+        (λ q s. index_at m asked d within us e a.name a.index a.is (subst (IsIndexed forms w) a.is a.part).0
         (λ b. index_whole w a.name a.index (subst (λ y. (takes_part true w y || is_whole_expression true w y) ≡ true) a.is
         (part_asked w e a.name a.index a.is (and_parts _ _ (regions_asked (typed w e) p _ a.regions (asks_first _ _ _ whole b))).1)))
         (told_at w.tree w.scope way a.name a.index (subst (Told way w.tree w.scope) a.is parts.0)) q s) pc st.0)
-        (both g t k (subst (λ q. Goes (handed way w p e ∷ us) q (handed way w p e ∷ us)) (sym (ap (converted_code w (typed w e)) a.same ∙ same_code w (typed w e) p a.regions)) (nothing_done g t k _))
-        (args_marked d ts ps es (handed way w p e ∷ us) fine.1 (asks_second _ _ _ whole) parts.1 _ st.1.1)))
-        (λ keeps a. both g t k (cut_passed d us p e a.name a.is keeps a.cut a.partition)
-        (both g t k (subst (λ q. Goes (handed way w p e ∷ us) q (handed way w p e ∷ us)) (sym (ap (converted_code w (typed w e)) a.same ∙ cut_unconverted w (typed w e) p a.partition))
+        (both g t k (subst (λ q. GoesAt m (handed way w p e ∷ us) q (handed way w p e ∷ us)) (sym (ap (converted_code w (typed w e)) a.same ∙ same_code w (typed w e) p a.regions)) (nothing_done g t k _))
+        (args_at m asked d within ts ps es (handed way w p e ∷ us) fine.1 (asks_second _ _ _ whole) parts.1 _ st.1.1)))
+        (λ keeps a. both g t k (cut_passed g t k slots have forms way w m asked d us p e a.name a.is keeps a.cut a.partition)
+        (both g t k (subst (λ q. GoesAt m (handed way w p e ∷ us) q (handed way w p e ∷ us)) (sym (ap (converted_code w (typed w e)) a.same ∙ cut_unconverted w (typed w e) p a.partition))
         (nothing_done g t k _))
-        (args_marked d ts ps es (handed way w p e ∷ us) fine.1 (asks_second _ _ _ whole) parts.1 _ st.1.1))) fine.0
-    args_marked d [] [] (an_expr e es) us fine whole told pc st = absurd fine
-    args_marked d [] (p ∷ ps) es us fine whole told pc st = absurd fine
-    args_marked d (u ∷ ts) [] es us fine whole told pc st = absurd fine
-    args_marked d (u ∷ ts) (p ∷ ps) no_expr us fine whole told pc st = absurd fine
+        (args_at m asked d within ts ps es (handed way w p e ∷ us) fine.1 (asks_second _ _ _ whole) parts.1 _ st.1.1))) fine.0
+    args_at m asked d within [] [] (an_expr e es) us fine whole told pc st = absurd fine
+    args_at m asked d within [] (p ∷ ps) es us fine whole told pc st = absurd fine
+    args_at m asked d within (u ∷ ts) [] es us fine whole told pc st = absurd fine
+    args_at m asked d within (u ∷ ts) (p ∷ ps) no_expr us fine whole told pc st = absurd fine
+
+-- between two statements
+module _ (g : Program) (t : TaskCode) (k slots : ℕ) (have : HasSlots t slots) (forms : Forms) (way : Way) (w : Where) (m : Mark)
+    (asked : Asked g t k slots forms way w m) where
+  pub expr_marked : (d : ℕ) (e : Expression) (us : List Shape) → IsTyped forms w e → Asks forms.keeps (is_whole_expression true w e) →
+      Told way w.tree w.scope e → (pc : ℕ) → Stands t.body pc (expr_code w d e) → Marked g t k (stacked m us) (expr_code w d e) (stacked m (shape_of (typed w e) ∷ us))
+  expr_marked d e us fine whole told pc st = expr_at g t k slots have forms way w m asked d (omega arith) e us fine whole told pc st
+
+  pub args_marked : (d : ℕ) (ts ps : List StaticType) (es : Expressions) (us : List Shape) → ArePassed forms w ts ps es → Asks forms.keeps (are_whole_arguments true w ps es) →
+      ToldArgs way w.tree w.scope es → (pc : ℕ) → Stands t.body pc (exprs_code w d ts es) →
+      Marked g t k (stacked m us) (exprs_code w d ts es) (stacked m (onto (all_handed way w ps es) us))
+  args_marked d ts ps es us fine whole told pc st = args_at g t k slots have forms way w m asked d (omega arith) ts ps es us fine whole told pc st

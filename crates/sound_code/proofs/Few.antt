@@ -8,7 +8,7 @@ use Rattle.regent_tree.specs.Limits.{node, nodes, parts_of_arms, parts_of_block,
 use Rattle.regent_tree.specs.Scopes.{bound_params, bound_to, scope_of}
 use Rattle.regent_tree.specs.StaticTypes.{task_named}
 use Rattle.regent_tree.specs.Syntax.{a_link, a_statement, access_expr, alias_item, an_arm, an_expr, Arms, assert_form, assign_form, at_step, Block, both_initializer, by_field_initializer, call_expr, call_form, cast_expr, chain_expr, convert_expr, do_form, either_initializer, else_block, equal_initializer, Expression, Expressions, field_step, fill_form, for_in_form, for_to_form, Form, if_form, image_initializer, Initializer, import_item, is_null_expr, ItemForm, Links, Name, no_arm, no_else, no_expr, no_link, no_statement, no_step, null_expr, number_expr, Otherwise, plain_initializer, prefix_expr, preimage_initializer, print_form, region_initializer, return_form, space_expr, space_item, start_item, Steps, task_item, TaskTree, then_statement, Tree, truth_expr, var_form, while_form}
-use Rattle.regent_tree.specs.Typing.{arithmetic_type, owned, param_types, scope_after_arms, taken_from, var_type}
+use Rattle.regent_tree.specs.Typing.{arithmetic_type, owned, param_types, scope_after_arms, taken_from, type_of_field, var_type}
 use Rattle.regent_tree.specs.declared.expression.Arithmetic.TheVariants.{Subtract}
 use Rattle.regent_tree.specs.declared.expression.Operator.TheVariants.{Compute}
 use Rattle.regent_tree.specs.declared.types.Param.{Param}
@@ -25,7 +25,7 @@ use Rattle.code_laws.proofs.Openings.{types_cons, types_in}
 use Rattle.code_laws.proofs.Typing.{AreKept, kept_behind, kept_left, kept_right}
 use Rattle.code_laws.proofs.Wider.{any_field, begun, keepable}
 use Rattle.code_laws.specs.Steps.{Forms}
-use Rattle.code_laws.specs.Typed.{element_field, field_behind, IsLooped, AreTypedArms, BeginsAsPart, IsBegun, IsDifference, IsIndexed, IsKeepable, IsPointing, IsTyped, IsTypedBlock, IsTypedElse, IsTypedForm}
+use Rattle.code_laws.specs.Typed.{part_element, element_field, field_behind, IsLooped, AreTypedArms, BeginsAsPart, IsBegun, IsDifference, IsIndexed, IsKeepable, IsPointing, IsTyped, IsTypedBlock, IsTypedElse, IsTypedForm}
 use Rattle.fit_rules.specs.Shapes.{Each}
 use Rattle.sound_code.proofs.WholeTasks.{are_whole_arguments, are_whole_arms, are_whole_expressions, are_whole_links, is_value, is_whole_block, is_whole_domain, is_whole_else, is_whole_expression, is_whole_form, is_whole_program, is_whole_task, names_region, takes_part}
 use Rattle.sound_code.proofs.FewTypes.{value_few, written_few, said_few, owned_few, taken_few, counted_few, element_few, colours_few, minus_few}
@@ -100,6 +100,22 @@ at_kept : (n : Name) (e : Expression) (steps : Steps) → AreKept (parts_of_expr
 at_kept n e steps k = kept_left (parts_of_expression e) (parts_of_steps steps)
     (kept_behind node (parts_of_expression e ++ parts_of_steps steps) (kept_behind node (node ∷ (parts_of_expression e ++ parts_of_steps steps)) k))
 
+-- what the steps of a target have
+first_of_steps : (e : Expression) (rest : Steps) → AreKept (parts_of_steps (at_step e rest)) → AreKept (parts_of_expression e)
+first_of_steps e rest k = kept_left (parts_of_expression e) (parts_of_steps rest) (kept_behind node (parts_of_expression e ++ parts_of_steps rest) k)
+
+second_of_steps : (e i : Expression) (rest : Steps) → AreKept (parts_of_steps (at_step e (at_step i rest))) → AreKept (parts_of_expression i)
+second_of_steps e i rest k = first_of_steps i rest
+    (kept_right (parts_of_expression e) (parts_of_steps (at_step i rest)) (kept_behind node (parts_of_expression e ++ parts_of_steps (at_step i rest)) k))
+
+second_kept : (n : Name) (e i : Expression) (rest : Steps) → AreKept (parts_of_expression (access_expr n (at_step e (at_step i rest)))) →
+    AreKept (parts_of_expression i)
+second_kept n e i rest k =
+    let inner = parts_of_expression i ++ parts_of_steps rest in
+    let own = parts_of_expression e ++ (node ∷ inner) in
+    kept_left (parts_of_expression i) (parts_of_steps rest)
+    (kept_behind node inner (kept_right (parts_of_expression e) (node ∷ inner) (kept_behind node own (kept_behind node (node ∷ own) k))))
+
 mutual
   expr_few : (w : Where) → FewIn w → (e : Expression) → AreKept (parts_of_expression e) → is_whole_expression false w e ≡ true → is_whole_expression true w e ≡ true
   expr_few w few (number_expr z v) k h = refl
@@ -115,6 +131,8 @@ mutual
   expr_few w few (access_expr n (at_step e no_step)) k h = and_map (is_region (bound w n).static_type) (is_whole_expression false w e) _ _ (λ r. r)
       (expr_few w few e (at_kept n e no_step k)) h
   expr_few w few (access_expr n (at_step e (field_step f rest))) k h = expr_few w few e (at_kept n e (field_step f rest) k) h
+  expr_few w few (access_expr n (at_step e (at_step i rest))) k h = and_map (is_whole_expression false w e) (is_whole_expression false w i) _ _
+      (expr_few w few e (at_kept n e (at_step i rest) k)) (expr_few w few i (second_kept n e i rest k)) h
   expr_few w few (call_expr task args) k h =
       args_few w few (param_types w.tree (task_named w.tree task)) args (few.tasks task) (kept_behind node (parts_of_expressions args) k) h
   expr_few w few (convert_expr t e) k h = expr_few w few e (kept_behind node (parts_of_expression e) k) h
@@ -126,7 +144,6 @@ mutual
       and_map (is_value false (typed w (cast_expr t e))) (is_whole_expression false w e) _ _
       (value_few (typed w (cast_expr t e)) (written_few w.tree _ t (kept_left (parts_of_pointer t) (parts_of_expression e) inner)))
       (expr_few w few e (kept_right (parts_of_pointer t) (parts_of_expression e) inner)) h
-  expr_few w few _ k h = absurd (false≢true h)
 
   links_few : (w : Where) → FewIn w → (ls : Links) → AreKept (parts_of_links ls) → are_whole_links false w ls ≡ true → are_whole_links true w ls ≡ true
   links_few w few no_link k h = refl
@@ -174,6 +191,10 @@ module _ (forms : Forms) where
       written_few w.tree _ t (kept_left (parts_of_pointer t) (parts_of_expression e) (kept_behind node (parts_of_pointer t ++ parts_of_expression e) k))
   pointing_few w few (access_expr n (at_step e (field_step l (field_step g rest)))) k p f = further_few forms w rest (element_field w n e l) g f.6
   pointing_few w few (access_expr n (field_step l (field_step g rest))) k p f = further_few forms w rest (field_behind w n l) g f.3
+  pointing_few w few (access_expr n (at_step e (at_step i (field_step l no_step)))) k p f = field_few _ _ _ f.4.keeps
+  pointing_few w few (access_expr n (at_step e (at_step i (field_step l (field_step g rest))))) k p f =
+      further_few forms w rest (type_of_field w.tree (part_element w n e i) l) g f.5
+  pointing_few w few (access_expr n (at_step e (at_step i (field_step l (at_step y rest))))) k p f = absurd f.5
   pointing_few w few _ k p f = absurd p
 
   difference_few : (w : Where) (e : Expression) → IsDifference w e → HasFew (typed w e)
@@ -282,6 +303,13 @@ module _ (forms : Forms) where
         let inner = kept_behind node (parts_of_expression e ++ parts_of_steps (field_step l rest)) (kept_left steps (parts_of_expression y) k) in
         and_map (is_whole_expression false w e) (is_whole_expression false w y) _ _
         (expr_few w few e (kept_left (parts_of_expression e) (parts_of_steps (field_step l rest)) inner))
+        (expr_few w few y (kept_right steps (parts_of_expression y) k)) h
+    form_few w few (assign_form n (at_step e (at_step i rest)) o y) k f h =
+        let steps = parts_of_steps (at_step e (at_step i rest)) in
+        let front = kept_left steps (parts_of_expression y) k in
+        and_map (is_whole_expression false w e && is_whole_expression false w i) (is_whole_expression false w y) _ _
+        (and_map (is_whole_expression false w e) (is_whole_expression false w i) _ _
+        (expr_few w few e (first_of_steps e (at_step i rest) front)) (expr_few w few i (second_of_steps e i rest front)))
         (expr_few w few y (kept_right steps (parts_of_expression y) k)) h
     form_few w few (return_form None) k f h = refl
     form_few w few (return_form (Some e)) k f h = expr_few w few e k h

@@ -1,5 +1,5 @@
 -- What is asked of a task holds of one that is typed, where each fill names a field: each name that is read has a value.
-use Rattle.std.proofs.Common.{◌≡◌, ◌⊎◌, ⊎_elim, ℕ, zero, suc, List, [], ◌∷◌, true, false, ◌&&◌, ◌||◌, None, Some, refl, sym, ap, subst}
+use Rattle.std.proofs.Common.{◌≡◌, ◌⊎◌, ⊎_elim, ℕ, zero, suc, List, [], ◌∷◌, true, false, ◌&&◌, ◌||◌, None, Some, refl, sym, ap, ◌∙◌, subst}
 use Rattle.std.specs.List.{list_all}
 use Rattle.std.specs.Prelude.{slice_get}
 use Rattle.std.proofs.lemmas.Bool.{and_parts, false≢true, or_left, or_right}
@@ -93,6 +93,10 @@ module _ (forms : Forms) (keeps : forms.keeps ≡ true) where
     expr_whole w (null_expr t) f v = refl
     expr_whole w (cast_expr t e) f v = both_true (is_value false (typed w (cast_expr t e))) (is_whole_expression false w e) (pointer_value _ f.1.0)
         (expr_whole w e f.3 (counting_value _ f.2))
+    expr_whole w (access_expr n (at_step e (at_step i no_step))) f v = both_true (is_whole_expression false w e) (is_whole_expression false w i)
+        (expr_whole w e f.2.0 (counting_value _ f.2.1)) (expr_whole w i f.3.0 (counting_value _ f.3.1))
+    expr_whole w (access_expr n (at_step e (at_step i (field_step l rest)))) f v = both_true (is_whole_expression false w e) (is_whole_expression false w i)
+        (expr_whole w e f.2.0 (counting_value _ f.2.1)) (expr_whole w i f.3.0 (counting_value _ f.3.1))
     expr_whole w _ f v = absurd f
 
     links_whole : (w : Where) (t : StaticType) (ls : Links) → AreTypedLinks forms w t ls → are_whole_links false w ls ≡ true
@@ -184,6 +188,19 @@ module _ (forms : Forms) (keeps : forms.keeps ≡ true) where
   point_typed w n e f g (field_step k rest) lo t = (t.1, counting forms.keeps _ t.2)
   point_typed w n e f g (at_step i rest) lo t = absurd (false≢true lo)
 
+  -- the two indices of an element of a part that has no name
+  both_whole : (w : Where) (e i : Expression) → IsTyped forms w e × IsCounting (typed w e) → IsTyped forms w i × IsCounting (typed w i) →
+      (is_whole_expression false w e && is_whole_expression false w i) ≡ true
+  both_whole w e i a b = both_true (is_whole_expression false w e) (is_whole_expression false w i) (expr_whole w e a.0 (counting_value _ a.1))
+      (expr_whole w i b.0 (counting_value _ b.1))
+
+  part_front : (w : Where) (n : Name) (e i : Expression) (f g : Name) (rest : Steps) → are_fields rest ≡ true →
+      IsTyped forms w (access_expr n (before_last (at_step e (at_step i (field_step f (field_step g rest)))))) →
+      (is_whole_expression false w e && is_whole_expression false w i) ≡ true
+  part_front w n e i f g no_step lo t = both_whole w e i t.2 t.3
+  part_front w n e i f g (field_step k rest) lo t = both_whole w e i t.2 t.3
+  part_front w n e i f g (at_step y rest) lo t = absurd (false≢true lo)
+
   filled_whole : (w : Where) (r : Name) (fields : List Name) (e : Expression) → names_field fields ≡ true → AreFilled forms.keeps w r (typed w e) fields → IsValue (typed w e)
   filled_whole w r [] e some f = absurd (false≢true some)
   filled_whole w r (l ∷ fields) e some f = filled_value (typed w e) _ (filling forms.keeps (typed w e) _ f.0)
@@ -267,6 +284,18 @@ module _ (forms : Forms) (keeps : forms.keeps ≡ true) where
         (expr_whole w y f.3 (integer_value _ f.1))
     form_whole w (return_form None) f h = refl
     form_whole w (return_form (Some e)) f h = expr_whole w e f.1 (into_values _ _ f.0.0).0
+    form_whole w (assign_form n (at_step e (at_step i (field_step l no_step))) how.Set y) f h =
+        both_true (is_whole_expression false w e && is_whole_expression false w i) (is_whole_expression false w y) (both_whole w e i f.4 f.5)
+        (expr_whole w y f.2 (assigned_values _ _ f.1).0)
+    form_whole w (assign_form n (at_step e (at_step i (field_step l no_step))) (how.Reduce o) y) f h =
+        both_true (is_whole_expression false w e && is_whole_expression false w i) (is_whole_expression false w y) (both_whole w e i f.5 f.6)
+        (expr_whole w y f.3 (integer_value _ f.1))
+    form_whole w (assign_form n (at_step e (at_step i (field_step l (field_step k rest)))) how.Set y) f h =
+        both_true (is_whole_expression false w e && is_whole_expression false w i) (is_whole_expression false w y) (part_front w n e i l k rest f.3.0 f.3.1)
+        (expr_whole w y f.2 (assigned_values _ _ f.1).0)
+    form_whole w (assign_form n (at_step e (at_step i (field_step l (field_step k rest)))) (how.Reduce o) y) f h =
+        both_true (is_whole_expression false w e && is_whole_expression false w i) (is_whole_expression false w y) (part_front w n e i l k rest f.4.0 f.4.1)
+        (expr_whole w y f.3 (integer_value _ f.1))
     form_whole w _ f h = absurd f
 
     block_whole : (w : Where) (b : Block) → IsTypedBlock forms w b → block_names_fields b ≡ true → is_whole_block false w b ≡ true

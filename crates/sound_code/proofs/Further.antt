@@ -35,7 +35,7 @@ use Rattle.fit_rules.specs.Shapes.{Shape}
 use Rattle.fit_rules.specs.Marks.{Mark, stacked}
 use Rattle.fit_rules.specs.Fits.{Program}
 use Rattle.sound_code.specs.Ways.{Tops, all_made, by_rules, shape_of, Way}
-use Rattle.sound_code.proofs.Asked.{Asked, ruled, Ruled}
+use Rattle.sound_code.proofs.Asked.{AskedAt, ruled, Ruled}
 use Rattle.sound_code.proofs.Combining.{both, Marked, nothing_done}
 use Rattle.sound_code.proofs.Pointing.{behind_marked}
 use Rattle.sound_code.proofs.Through.{allowed_reached, field_read, may_each}
@@ -79,7 +79,7 @@ module _ (tree : Tree) (task : TaskTree) (s : Scope) (sound : IsSound tree) wher
     pub none : first_in_steps tree task s t steps ≡ None
 
   -- of the fields behind the first one
-  rest_told : (e : Expression) (steps : Steps) → IsSoundScope s → first_in_expression tree task s e ≡ None →
+  pub rest_told : (e : Expression) (steps : Steps) → IsSoundScope s → first_in_expression tree task s e ≡ None →
       first_in_steps tree task s (known_type tree s e) steps ≡ None → AreTold (type_of tree s e) steps
   rest_told e steps scope none told =
       let known = head_known tree task sound s scope e none in
@@ -113,12 +113,12 @@ module _ (tree : Tree) (task : TaskTree) (s : Scope) (sound : IsSound tree) wher
 
 -- ---- code
 
-module _ (g : Program) (t : TaskCode) (k slots : ℕ) (forms : Forms) (way : Way) (w : Where) (m : Mark) (asked : Asked g t k slots forms way w m)
+module _ (g : Program) (t : TaskCode) (k slots : ℕ) (forms : Forms) (way : Way) (w : Where) (m : Mark) {deep : ℕ} (asked : AskedAt g t k slots deep forms way w m)
     (keeps : forms.keeps ≡ true) where
   abbrev Goes : List Shape → Piece → List Shape → Type 0
   Goes us p vs = Marked g t k (stacked m us) p (stacked m vs)
 
-  pub ways : Ruled g t k slots way w m
+  abbrev pub ways : Ruled g t k slots way w m
   ways = ruled g t k slots forms way w m asked keeps
 
   -- what a pointer on the stack goes to

@@ -62,7 +62,7 @@ module _ (tree : Tree) (task : TaskTree) (s : Scope) (sound : IsSound tree) (sco
     pub front : first_in_expression tree task s (access_expr n (before_last steps)) ≡ None
     pub granted : lacks tree task s (wanted_of_step tree a (field_of (type_of tree s (access_expr n (before_last steps))) (last_field steps))) ≡ false
 
-  aimed : (n : Name) (steps : Steps) → first_in_expression tree task s (access_expr n (before_last steps)) ≡ None →
+  pub aimed : (n : Name) (steps : Steps) → first_in_expression tree task s (access_expr n (before_last steps)) ≡ None →
       wanted_of_last tree a (takings tree s (type_named s.names n) steps)
       ≡ wanted_of_step tree a (field_of (known_type tree s (access_expr n (before_last steps))) (last_field steps)) →
       lacks tree task s (wanted_of_last tree a (takings tree s (type_named s.names n) steps)) ≡ false → IsAimed n steps

@@ -51,7 +51,7 @@ use Rattle.sound_code.specs.Ways.{by_rules, none_begun, origin_behind, origin_in
 use Rattle.sound_code.proofs.WholeTasks.{are_whole_arguments}
 use Rattle.sound_code.proofs.Wholes.{Asks, asks_first, asks_second, given_whole, IsWorth, worth_named}
 use Rattle.sound_code.proofs.Parts.{parent_named}
-use Rattle.sound_code.proofs.Asked.{AreTops, Asked, Hands, hands_none, hands_taken, Known, told_total, UpTo}
+use Rattle.sound_code.proofs.Asked.{AreTops, AskedAt, Hands, hands_none, hands_taken, Known, told_total, UpTo}
 use Rattle.sound_code.proofs.Calling.{nothing_needed, onto, opening_suits, opens, passed_many, passed_worth, some_body, takes_settled, types_many, worth_is}
 use Rattle.sound_code.proofs.Colours.{named_low, slot_low}
 use Rattle.sound_code.proofs.Cuts.{CutBy}
@@ -249,7 +249,7 @@ module _ (forms : Forms) (way : Way) (tops : Tops) (w : Where) (u : TaskTree) (n
 
 -- ---- calls
 
-module _ (g : Program) (t : TaskCode) (k slots : ℕ) (forms : Forms) (way : Way) (w : Where) (m : Mark) (asked : Asked g t k slots forms way w m) where
+module _ (g : Program) (t : TaskCode) (k slots : ℕ) (forms : Forms) (way : Way) (w : Where) (m : Mark) {deep : ℕ} (asked : AskedAt g t k slots deep forms way w m) where
   pub handed_marked : (y : Taking) → forms.takes ≡ Some y → (d : ℕ) (u p : StaticType) (e : Expression) (us : List Shape) →
       IsHanded (Some y) w u p e → Marked g t k (stacked m us) (expr_code w d e) (stacked m (handed way w p e ∷ us))
   handed_marked y takes d u p e us h =

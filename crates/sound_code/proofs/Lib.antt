@@ -51,11 +51,13 @@ pub mod Wants
 pub mod Handing
 pub mod Wanting
 pub mod Liking
+pub mod PartElements
 pub mod Expressions
 pub mod ScopedNames
 pub mod Cuts
 pub mod CutParams
 pub mod FurtherTargets
+pub mod PartTargets
 pub mod Statements
 pub mod Below
 pub mod CutForms

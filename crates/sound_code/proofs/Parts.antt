@@ -31,7 +31,7 @@ use Rattle.fit_rules.specs.Marks.{any_colour, child_in, Mark, parted, stacked, t
 use Rattle.marked_code.specs.Marked.{leads_coloured, leads_loaded, leads_pointed, typed_op}
 use Rattle.fit_rules.specs.Fits.{Program}
 use Rattle.sound_code.specs.Ways.{by_rules, origin_in, shape_in, shape_of, Way}
-use Rattle.sound_code.proofs.Asked.{Asked, ruled}
+use Rattle.sound_code.proofs.Asked.{AskedAt, ruled}
 use Rattle.sound_code.proofs.Colours.{colour_at, held_colour, IsUnder, named_low, slot_low}
 use Rattle.sound_code.proofs.Combining.{both, into, Marked, nothing_done}
 use Rattle.sound_code.proofs.Plain.{plain_origin}
@@ -74,7 +74,7 @@ part_regions w n e p is h = element_regions w (bound w n).static_type e p is h
 pub own_named : (all : List Bound) (u : StaticType) (n i : ℕ) → IsRegion u → IsScoped all n u → n ≡ i → term_in u ≡ term.Name i
 own_named all _ n i (a_region_type k sp args r) h e = h ∙ ap term.Name e
 
-module _ (g : Program) (t : TaskCode) (k slots : ℕ) (forms : Forms) (way : Way) (w : Where) (m : Mark) (asked : Asked g t k slots forms way w m) where
+module _ (g : Program) (t : TaskCode) (k slots : ℕ) (forms : Forms) (way : Way) (w : Where) (m : Mark) {deep : ℕ} (asked : AskedAt g t k slots deep forms way w m) where
   abbrev Goes : List Shape → Piece → List Shape → Type 0
   Goes us p vs = Marked g t k (stacked m us) p (stacked m vs)
 

@@ -31,7 +31,7 @@ use Rattle.fit_rules.specs.Marks.{Mark, stacked}
 use Rattle.fit_rules.specs.Fits.{Program}
 use Rattle.fit_rules.specs.Sound.{does_cast, does_cast_pointer, does_element, does_is_null, does_load, does_num, HasRegion, settled_number}
 use Rattle.sound_code.specs.Ways.{by_rules, shape_of, Way}
-use Rattle.sound_code.proofs.Asked.{Asked, ruled}
+use Rattle.sound_code.proofs.Asked.{AskedAt, ruled}
 use Rattle.sound_code.proofs.Combining.{both, does, Marked, nothing_done}
 use Rattle.sound_code.proofs.Counting.{counted_numeric, null_fits, standing_counted}
 use Rattle.sound_code.proofs.Placing.{named_at, region_named}
@@ -41,7 +41,7 @@ use Rattle.sound_code.proofs.Through.{allowed_through, may_read_through, may_red
 use Rattle.sound_code.proofs.Told.{Told, ToldForm}
 use Rattle.sound_code.proofs.Wholes.{HasFew}
 
-module _ (g : Program) (t : TaskCode) (k slots : ℕ) (forms : Forms) (way : Way) (w : Where) (m : Mark) (asked : Asked g t k slots forms way w m) where
+module _ (g : Program) (t : TaskCode) (k slots : ℕ) (forms : Forms) (way : Way) (w : Where) (m : Mark) {deep : ℕ} (asked : AskedAt g t k slots deep forms way w m) where
   abbrev Goes : List Shape → Piece → List Shape → Type 0
   Goes us p vs = Marked g t k (stacked m us) p (stacked m vs)
 

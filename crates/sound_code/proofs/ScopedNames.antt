@@ -66,6 +66,8 @@ module _ (forms : Forms) (w : Where) (all : AreScoped w.scope.names w.scope.name
   pointing_aims (access_expr n (at_step e (field_step f (field_step g rest)))) p h fine =
       there (typed w (access_expr n (at_step e (field_step f (field_step g rest))))) h
   pointing_aims (access_expr n (field_step f (field_step g rest))) p h fine = there (typed w (access_expr n (field_step f (field_step g rest)))) h
+  pointing_aims (access_expr n (at_step e (at_step i (field_step f rest)))) p h fine =
+      there (typed w (access_expr n (at_step e (at_step i (field_step f rest))))) h
   pointing_aims _ p h f = absurd h
 
   pub begun_scoped : (b : Bool) (e : Expression) (n : ℕ) → IsKeepable b w e → IsTyped forms w e → IsScoped w.scope.names n (owned w.scope.next (typed w e))

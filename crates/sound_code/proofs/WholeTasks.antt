@@ -42,13 +42,13 @@ abbrev mutual
   is_whole_expression few w (access_expr n (field_step f rest)) = true
   is_whole_expression few w (access_expr n (at_step e no_step)) = is_region (bound w n).static_type && is_whole_expression few w e
   is_whole_expression few w (access_expr n (at_step e (field_step f rest))) = is_whole_expression few w e
+  is_whole_expression few w (access_expr n (at_step e (at_step i rest))) = is_whole_expression few w e && is_whole_expression few w i
   is_whole_expression few w (call_expr task args) = are_whole_arguments few w (param_types w.tree (task_named w.tree task)) args
   is_whole_expression few w (convert_expr t e) = is_whole_expression few w e
   is_whole_expression few w (space_expr k e) = is_whole_expression few w e
   is_whole_expression few w (is_null_expr e) = is_whole_expression few w e
   is_whole_expression few w (null_expr t) = true
   is_whole_expression few w (cast_expr t e) = is_value few (typed w (cast_expr t e)) && is_whole_expression few w e
-  is_whole_expression few w e = false
 
   pub are_whole_links : Bool → Where → Links → Bool
   are_whole_links few w no_link = true
@@ -108,6 +108,8 @@ abbrev mutual
   is_whole_form few w (assign_form n no_step h e) = is_value few (bound w n).static_type && is_whole_expression few w e
   is_whole_form few w (assign_form n (field_step f rest) h y) = is_whole_expression few w y
   is_whole_form few w (assign_form n (at_step e (field_step f rest)) h y) = is_whole_expression few w e && is_whole_expression few w y
+  is_whole_form few w (assign_form n (at_step e (at_step i rest)) h y) =
+      (is_whole_expression few w e && is_whole_expression few w i) && is_whole_expression few w y
   is_whole_form few w (return_form None) = true
   is_whole_form few w (return_form (Some e)) = is_whole_expression few w e
   is_whole_form few w form = false

@@ -1,5 +1,5 @@
 -- The shapes of names in scope: what a mark between two statements says.
-use Rattle.std.specs.Prelude.{◌≡◌, ℕ, ◌<◌, ◌≤◌, ◌+◌, ◌*◌, ◌-◌, List, [], ◌∷◌, length, map, Some, slice_get, true}
+use Rattle.std.specs.Prelude.{◌≡◌, ℕ, zero, suc, ◌<◌, ◌≤◌, ◌+◌, ◌*◌, ◌-◌, List, [], ◌∷◌, length, map, Some, slice_get, true}
 use Rattle.regent_tree.specs.Accesses.{space_in}
 use Rattle.regent_tree.specs.Scopes.{bound_as}
 use Rattle.regent_tree.specs.Typing.{parent_of}
@@ -99,19 +99,28 @@ abbrev pub loops_in : Way → List Bound → List Bound
 loops_in all_made bs = []
 loops_in (by_rules tops task) bs = bs
 
--- A mark stands between two statements: the names have their shapes, of the slots behind those of the
+-- the slots behind those of names of which nothing is known, where so many spare slots are in use
+abbrev pub IsFreeFrom : ℕ → ℕ → ℕ → Type 0
+IsFreeFrom zero n s = n ≤ s
+IsFreeFrom (suc d) n s = n + 3 + d ≤ s
+
+-- A mark stands between two statements, or within one, where so many spare slots are in use: the names have their shapes, of the slots behind those of the
 -- names nothing is known, roots are those of names, and facts speak of the counters of loops around, of parameters, of
 -- the partitions that names have, and of regions that began as parts. Beside pointers into parts stand the parts. The slots of names
 -- stay as they are while something stands on the stack.
-pub record Ready (way : Way) (params : ℕ) (bs : List Bound) (m : Mark) : Type 0 where
+pub record ReadyAt (deep : ℕ) (way : Way) (params : ℕ) (bs : List Bound) (m : Mark) : Type 0 where
   pub named : AreNamed way params m.slots bs
   pub beside : HavePartsBeside way params m.slots bs
-  pub free : (s : ℕ) → slot_at params (length bs) ≤ s → s < length m.slots →
+  pub free : (s : ℕ) → IsFreeFrom deep (slot_at params (length bs)) s → s < length m.slots →
       slice_get m.slots s ≡ Some anything
   pub numbered : Each (IsNumbered bs) m.slots
   pub facts : Each (IsSteady params (length bs) (loops_in way bs)) m.facts
   pub low : params ≤ length bs
   pub fixed : m.fixed ≡ slot_at params (length bs)
+
+-- between two statements
+abbrev pub Ready : Way → ℕ → List Bound → Mark → Type 0
+Ready way params bs m = ReadyAt 0 way params bs m
 
 -- shapes tell at least what others tell
 pub data Narrower : List Shape → List Shape → Type 0 where
