@@ -3,4 +3,5 @@ pub mod Kinds
 pub mod Needs
 pub mod Sound
 pub mod Writing
+pub mod WrittenStatements
 pub mod Laws

@@ -28,7 +28,7 @@ use Rattle.check_laws.proofs.Variables.{parts_of_form as parts_told}
 use Rattle.check_laws.specs.SoundScopes.{IsSoundScope}
 use Rattle.statement_laws.proofs.Scopes.{bounds_whole, domain_sort, is_whole, names_arms, names_else}
 use Rattle.statement_laws.specs.Steady.{ArePlaced}
-use Rattle.statement_laws.specs.WrittenStatements.{AreWrittenArms, IsWrittenBlock, IsWrittenElse}
+use Rattle.expression_laws.specs.WrittenStatements.{AreWrittenArms, IsWrittenBlock, IsWrittenElse}
 use Rattle.state_laws.specs.Going.{GoesOnFit, IsPlaceOfRun}
 use Rattle.state_laws.specs.Laws.{FormFits}
 use Rattle.state_laws.proofs.Assignments.{assign_fits, filled}

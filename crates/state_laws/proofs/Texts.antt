@@ -34,7 +34,7 @@ use Rattle.check_laws.proofs.Trees.{declared_none}
 use Rattle.check_laws.specs.SoundScopes.{IsPlaced}
 use Rattle.expression_laws.proofs.Params.{param_type, parent_region}
 use Rattle.state_laws.specs.Runs.{IsBodyOfFit, TextsFit}
-use Rattle.statement_laws.specs.WrittenStatements.{AreWrittenTasks}
+use Rattle.expression_laws.specs.WrittenStatements.{AreWrittenTasks}
 use Rattle.state_laws.proofs.Declared.{AreSoundParams, HasRegions, field_said, names_fine, no_params, params_said, sound_params, term_limit}
 use Rattle.state_laws.proofs.Standing.{form_limits, form_untold, forms, space_stands, task_stands}
 use Rattle.value_laws.proofs.Limits.{all_behind, all_left, all_right}

@@ -14,7 +14,7 @@ use Rattle.check_rules.specs.scopes.Visits.{Visit}
 use Rattle.check_laws.proofs.Places.{places_are_without_breach}
 use Rattle.check_laws.specs.Laws.{IsWithoutBreach}
 use Rattle.check_laws.specs.MeantVisits.{meant_visits}
-use Rattle.statement_laws.specs.WrittenStatements.{AreWrittenTasks, IsWrittenBlock}
+use Rattle.expression_laws.specs.WrittenStatements.{AreWrittenTasks, IsWrittenBlock}
 use Rattle.state_laws.specs.Runs.{IsTextOfFit}
 use Rattle.state_laws.specs.UnionExample.{UnionExampleFits, joined, union_here, union_roots, union_state, union_task, union_tree}
 use Rattle.state_laws.proofs.Example.{from_each}

@@ -7,7 +7,7 @@ use Rattle.regent_tree.specs.Meaning.{body_of, calls_at}
 use Rattle.regent_tree.specs.Running.{Here}
 use Rattle.check_rules.specs.first.FirstInStatements.{first_in_block}
 use Rattle.statement_laws.specs.Example.{example_state, example_task, example_tree}
-use Rattle.statement_laws.specs.WrittenStatements.{IsWrittenBlock}
+use Rattle.expression_laws.specs.WrittenStatements.{IsWrittenBlock}
 use Rattle.state_laws.specs.Going.{IsPlaceOfRun}
 use Rattle.value_laws.specs.Keeping.{StateFits}
 

@@ -8,7 +8,7 @@ use Rattle.regent_tree.specs.Running.{Here, State}
 use Rattle.regent_tree.specs.Syntax.{Form, TaskTree}
 use Rattle.regent_tree.specs.Typing.{scope_after}
 use Rattle.check_rules.specs.first.FirstInStatements.{first_of_form, first_within}
-use Rattle.statement_laws.specs.WrittenStatements.{IsWrittenForm}
+use Rattle.expression_laws.specs.WrittenStatements.{IsWrittenForm}
 use Rattle.state_laws.specs.Going.{GoesOnFit, IsPlaceOfRun}
 use Rattle.value_laws.specs.Keeping.{StateFits}
 

@@ -18,7 +18,7 @@ use Rattle.check_rules.specs.scopes.Sound.{IsSound}
 use Rattle.check_rules.specs.types.Declarations.{is_no_result_type}
 use Rattle.check_rules.specs.types.Sorts.{type_at}
 use Rattle.check_laws.specs.SoundScopes.{IsSoundScope}
-use Rattle.statement_laws.specs.WrittenStatements.{AreWrittenTasks, IsWrittenBlock}
+use Rattle.expression_laws.specs.WrittenStatements.{AreWrittenTasks, IsWrittenBlock}
 use Rattle.state_laws.specs.Going.{GoesOnFit}
 use Rattle.value_laws.specs.Keeping.{AnswersFit, ArgumentsFit}
 use Rattle.value_laws.specs.Spaces.{AreSpaced, HasSpacedDeclarations, NamesRegionOf}

@@ -12,7 +12,7 @@ use Rattle.regent_tree.specs.Syntax.{Form, TaskTree, Tree}
 use Rattle.regent_tree.specs.declared.types.NumberTerm.TheVariants.{Int64}
 use Rattle.check_rules.specs.first.FirstInStatements.{first_of_form, first_within}
 use Rattle.statement_laws.specs.Laws.{state_of}
-use Rattle.statement_laws.specs.WrittenStatements.{IsWrittenForm}
+use Rattle.expression_laws.specs.WrittenStatements.{IsWrittenForm}
 use Rattle.worked_examples.specs.Words.{either, equal, field_space, int, item, line, new_region, number, param, space, space_of, task, var_from}
 use Rattle.state_laws.specs.Going.{IsPlaceOfRun}
 use Rattle.value_laws.specs.Keeping.{StateFits}

@@ -26,7 +26,7 @@ use Rattle.expression_laws.specs.Kinds.{IsOfType, is_index, is_nothing, is_numbe
 use Rattle.expression_laws.specs.Sound.{AreCovered, AreFitting, AreSoundAnswers, IsSoundAnswer, of_arguments}
 use Rattle.statement_laws.specs.Laws.{AnswersAreSound, InstancesAreCovered, state_of}
 use Rattle.statement_laws.specs.Steady.{GoesOnSound}
-use Rattle.statement_laws.specs.WrittenStatements.{AreWrittenTasks}
+use Rattle.expression_laws.specs.WrittenStatements.{AreWrittenTasks}
 use Rattle.statement_laws.proofs.Openings.{sound_opening}
 use Rattle.statement_laws.proofs.Tasks.{body_goes, covered_there}
 

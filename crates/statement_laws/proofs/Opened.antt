@@ -20,7 +20,7 @@ use Rattle.expression_laws.specs.Needs.{IsCallWithin}
 use Rattle.expression_laws.specs.Sound.{AreFitting, AreSoundAnswers, IsSoundAnswer, of_arguments}
 use Rattle.statement_laws.specs.Laws.{state_of}
 use Rattle.statement_laws.specs.Opened.{Call, Makes, Opened, OpenedCallsLieWithin, OpenedInstancesAreCovered, Opens, by_call, entry, probed, run_of_opened, run_with_calls}
-use Rattle.statement_laws.specs.WrittenStatements.{AreWrittenTasks}
+use Rattle.expression_laws.specs.WrittenStatements.{AreWrittenTasks}
 use Rattle.regent_tree.specs.Cover.{is_covered}
 use Rattle.statement_laws.proofs.Answers.{answers_are_sound, instance_goes, instances_are_covered}
 use Rattle.statement_laws.proofs.Entering.{entry_fits}

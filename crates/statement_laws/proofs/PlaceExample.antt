@@ -19,7 +19,7 @@ use Rattle.statement_laws.specs.Laws.{IsSoundOpening}
 use Rattle.statement_laws.specs.PlaceExample.{IsStatementPlace, PlacesAreReady, call_here, call_state, caller_begins, caller_task, caller_tree, reduction, reduction_here, variable}
 use Rattle.statement_laws.specs.Places.{IsReady}
 use Rattle.statement_laws.specs.Steady.{IsSoundAfter}
-use Rattle.statement_laws.specs.WrittenStatements.{AreWrittenTasks, IsWrittenBlock}
+use Rattle.expression_laws.specs.WrittenStatements.{AreWrittenTasks, IsWrittenBlock}
 use Rattle.statement_laws.proofs.Answers.{answers_are_sound}
 use Rattle.statement_laws.proofs.Entering.{entry_fits}
 use Rattle.statement_laws.proofs.Example.{example_holds}

@@ -29,7 +29,7 @@ use Rattle.statement_laws.specs.Laws.{state_of}
 use Rattle.statement_laws.specs.Steady.{GoesOnSound}
 use Rattle.alike_runs.specs.Alike.{EndsEarly}
 use Rattle.statement_laws.specs.Watching.{keeps_privileges, unless_alarmed}
-use Rattle.statement_laws.specs.WrittenStatements.{AreWrittenTasks}
+use Rattle.expression_laws.specs.WrittenStatements.{AreWrittenTasks}
 use Rattle.statement_laws.proofs.Answers.{instance_goes, task_ended}
 use Rattle.statement_laws.proofs.Tasks.{covered_there}
 

@@ -16,7 +16,7 @@ use Rattle.expression_laws.specs.Kinds.{IsOfType, TypeBelow}
 use Rattle.fact_laws.specs.Regions.{Interpretation}
 use Rattle.expression_laws.specs.Sound.{IsOfParent, IsValueOf, Instance, IsSoundPlace, IsSoundState, KeepsSound}
 use Rattle.statement_laws.specs.Steady.{AgreeBelow, GoesOnSound, IsStaticPlace, KnowsMore}
-use Rattle.statement_laws.specs.WrittenStatements.{AreWrittenArms, IsWrittenBlock, IsWrittenElse}
+use Rattle.expression_laws.specs.WrittenStatements.{AreWrittenArms, IsWrittenBlock, IsWrittenElse}
 use Rattle.statement_laws.proofs.Agree.{agree_less, emptied, emptied_agrees, emptied_in_store, grows_none, grows_then, in_left, parent_too, place_too}
 use Rattle.check_rules.specs.first.Rules.{first_in}
 use Rattle.check_rules.specs.types.Parts.{tests_of}

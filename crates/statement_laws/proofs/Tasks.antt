@@ -4,7 +4,7 @@ use Rattle.regent_tree.specs.Syntax.{TaskTree, Tree}
 use Rattle.regent_tree.specs.Values.{Value}
 use Rattle.check_rules.specs.Breaches.{breaches}
 use Rattle.check_rules.specs.scopes.Sound.{StandsIn}
-use Rattle.statement_laws.specs.WrittenStatements.{IsWrittenBlock}
+use Rattle.expression_laws.specs.WrittenStatements.{IsWrittenBlock}
 use Rattle.regent_tree.specs.Execution.{Going, exec_block, goes_on, returned}
 use Rattle.regent_tree.specs.Meaning.{body_of}
 use Rattle.regent_tree.specs.Running.{Calls, Result, State, fails, gives}

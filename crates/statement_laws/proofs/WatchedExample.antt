@@ -5,7 +5,7 @@ use Rattle.regent_tree.proofs.Members.{Has, Has-from_Contains}
 use Rattle.regent_tree.specs.Syntax.{Block, ItemForm, ItemTree, no_statement, task_item}
 use Rattle.regent_tree.specs.declared.program.Grant.TheVariants.{Reads, Reduces}
 use Rattle.statement_laws.specs.WatchedExample.{WatchedExampleHolds, calling_tree}
-use Rattle.statement_laws.specs.WrittenStatements.{AreWrittenTasks, IsWrittenBlock}
+use Rattle.expression_laws.specs.WrittenStatements.{AreWrittenTasks, IsWrittenBlock}
 
 abbrev pub body_of_item : ItemForm → Block
 body_of_item (task_item t) = t.body

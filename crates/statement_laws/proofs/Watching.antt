@@ -20,7 +20,7 @@ use Rattle.check_laws.proofs.Entries.{begins}
 use Rattle.alike_runs.specs.Alike.{AnswersAlike, AreAlike, BreaksEarly, EndsEarly, IsAlike, instead, renamed, renamed_answer}
 use Rattle.alike_runs.proofs.Statements.{runs_alike}
 use Rattle.statement_laws.specs.Watching.{ProgramsKeepPrivileges, entry_args, keeps_privileges, own_run, run_with, unless_alarmed, watched_calls, watched_run}
-use Rattle.statement_laws.specs.WrittenStatements.{AreWrittenTasks}
+use Rattle.expression_laws.specs.WrittenStatements.{AreWrittenTasks}
 use Rattle.statement_laws.proofs.Entering.{entry_fits}
 use Rattle.statement_laws.proofs.Probing.{always_keeps, never_early, probing, stands_there}
 

@@ -14,7 +14,7 @@ use Rattle.check_rules.specs.Breaches.{breaches}
 use Rattle.check_rules.specs.scopes.Sound.{StandsIn}
 use Rattle.expression_laws.specs.Sound.{AreFitting, of_arguments}
 use Rattle.statement_laws.specs.Laws.{IsSoundOpening, state_of}
-use Rattle.statement_laws.specs.WrittenStatements.{IsWrittenBlock}
+use Rattle.expression_laws.specs.WrittenStatements.{IsWrittenBlock}
 use Rattle.worked_examples.specs.Touches.{sum_of_two, task_with}
 use Rattle.worked_examples.specs.Words.{fields, grants, item, naturals, root, task}
 

@@ -14,7 +14,7 @@ use Rattle.fact_laws.specs.Regions.{Interpretation}
 use Rattle.expression_laws.specs.Sound.{AreCovered, AreFitting, AreSoundAnswers, Instance, IsSoundPlace, IsSoundState, of_arguments}
 use Rattle.statement_laws.specs.Places.{FormGoes}
 use Rattle.statement_laws.specs.Steady.{IsStaticPlace}
-use Rattle.statement_laws.specs.WrittenStatements.{AreWrittenTasks, IsWrittenBlock}
+use Rattle.expression_laws.specs.WrittenStatements.{AreWrittenTasks, IsWrittenBlock}
 
 -- Every statement keeps what holds: loops, choices and blocks, variables, partition operations among them,
 -- writes, reductions, fills, calls, and what is returned.

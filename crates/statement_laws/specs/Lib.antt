@@ -1,5 +1,4 @@
 pub mod Steady
-pub mod WrittenStatements
 pub mod Places
 pub mod Laws
 pub mod Watching

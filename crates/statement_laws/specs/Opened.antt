@@ -16,7 +16,7 @@ use Rattle.check_rules.specs.Breaches.{breaches}
 use Rattle.alike_runs.specs.Alike.{EndsEarly, renamed_answer}
 use Rattle.expression_laws.specs.Needs.{IsCallWithin}
 use Rattle.statement_laws.specs.Watching.{entry_args, keeps_privileges}
-use Rattle.statement_laws.specs.WrittenStatements.{AreWrittenTasks}
+use Rattle.expression_laws.specs.WrittenStatements.{AreWrittenTasks}
 
 -- a call: on which line, of which task, with which arguments, on which store
 pub record Call : Type 0 where

@@ -21,7 +21,7 @@ use Rattle.statement_laws.specs.Example.{example_args, example_state, example_ta
 use Rattle.statement_laws.specs.Laws.{state_of}
 use Rattle.statement_laws.specs.Places.{IsReady}
 use Rattle.statement_laws.specs.WatchedExample.{calling_tree}
-use Rattle.statement_laws.specs.WrittenStatements.{IsWrittenForm}
+use Rattle.expression_laws.specs.WrittenStatements.{IsWrittenForm}
 use Rattle.worked_examples.specs.Words.{access, args, at, call, dot, get, int, new_region, reduce, space, space_of, var_from}
 
 -- a statement at a place, and a state from which it is executed: what laws suppose of them

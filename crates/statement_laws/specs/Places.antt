@@ -12,7 +12,7 @@ use Rattle.fact_laws.specs.Regions.{Interpretation}
 use Rattle.expression_laws.specs.Laws.{instance_at}
 use Rattle.expression_laws.specs.Sound.{AreSoundAnswers, IsSoundPlace, IsSoundState}
 use Rattle.statement_laws.specs.Steady.{GoesOnSound, IsStaticPlace}
-use Rattle.statement_laws.specs.WrittenStatements.{IsWrittenForm}
+use Rattle.expression_laws.specs.WrittenStatements.{IsWrittenForm}
 
 -- A place of a body in a program without a breach: all names have known types that speak of what is in
 -- scope, what is known speaks of what was bound, the known facts hold, and each call gives a value of the

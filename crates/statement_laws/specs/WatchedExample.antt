@@ -11,7 +11,7 @@ use Rattle.regent_tree.specs.declared.program.Grant.{Grant}
 use Rattle.regent_tree.specs.declared.program.Grant.TheVariants.{Reads, Reduces, Writes}
 use Rattle.check_rules.specs.Breaches.{breaches}
 use Rattle.statement_laws.specs.Watching.{own_run, watched_run}
-use Rattle.statement_laws.specs.WrittenStatements.{AreWrittenTasks}
+use Rattle.expression_laws.specs.WrittenStatements.{AreWrittenTasks}
 use Rattle.worked_examples.specs.Touches.{sum_of_two, task_with}
 use Rattle.worked_examples.specs.Words.{call, fields, get, grants, int, item, line, new_region, space, space_of, task, var_from}
 

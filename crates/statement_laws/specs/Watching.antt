@@ -17,7 +17,7 @@ use Rattle.regent_tree.specs.Typing.{param_types, result_type}
 use Rattle.regent_tree.specs.Values.{Value}
 use Rattle.check_rules.specs.Breaches.{breaches}
 use Rattle.statement_laws.specs.Laws.{state_of}
-use Rattle.statement_laws.specs.WrittenStatements.{AreWrittenTasks}
+use Rattle.expression_laws.specs.WrittenStatements.{AreWrittenTasks}
 
 -- whether each touch of an instance is covered by what its task declares: of the roots that were there before it,
 -- its task, its arguments and its run

@@ -10,7 +10,7 @@ use Rattle.regent_lex.specs.declared.input_element.InputElement.{InputElement}
 use Rattle.regent_lex.specs.declared.input_element.InputElement.TheVariants.{Fault, Token, Trivia}
 use Rattle.regent_lex.specs.declared.token.TokenKind.{TokenKind}
 use Rattle.regent_lex.proofs.Sound.{element_begins}
-use Rattle.text_laws.proofs.Expressions.{some_is}
+use Rattle.written_trees.proofs.Expressions.{some_is}
 
 abbrev behind : TokenKind → ℕ → ℕ → ℕ → Option Lexed → Option Lexed
 behind kind place line n None = None

@@ -1,6 +1,3 @@
-pub mod Writings
-pub mod Expressions
-pub mod Statements
 pub mod Texts
 pub mod Lexing
 pub mod Example

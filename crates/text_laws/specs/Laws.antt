@@ -8,11 +8,6 @@ use Rattle.expression_laws.specs.Needs.{IsCallWithin}
 use Rattle.regent_tree.specs.Meaning.{calls_at}
 use Rattle.statement_laws.specs.Opened.{Call, Makes, Opened, Opens, run_of_opened}
 use Rattle.statement_laws.specs.Watching.{IsWithinPrivileges, keeps_privileges}
-use Rattle.statement_laws.specs.WrittenStatements.{AreWrittenTasks}
-
--- in each tree that is read a prefix has a sign, and a fill names a field
-abbrev pub ReadTreesAreWritten : Type 0
-ReadTreesAreWritten = (text : List ℕ) (tree : Tree) → Reads text (Ok tree) → AreWrittenTasks tree
 
 -- In a program that a text spells and that has no breach, no task of a run touches an element outside its declared
 -- privileges, whatever the numbers that the entry task is given and the turns.

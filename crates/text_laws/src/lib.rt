@@ -4,12 +4,7 @@
 #![tactic(auto)]
 
 ghost use Rattle.text_laws.specs.Example.{ExampleIsRead};
-ghost use Rattle.text_laws.specs.Laws.{CallsOfTextsLieWithin, OpenedByTextsAreCovered, ReadTreesAreWritten, TextsKeepPrivileges};
-
-/// In each tree that is read a prefix has a sign, and a fill names a field.
-pub fn read_trees_are_written()
-    ensures { ReadTreesAreWritten }
-{}
+ghost use Rattle.text_laws.specs.Laws.{CallsOfTextsLieWithin, OpenedByTextsAreCovered, TextsKeepPrivileges};
 
 /// In a program that a text spells and that has no breach, no task of a run touches an element outside its declared
 /// privileges.

@@ -1,5 +1,5 @@
--- Each production of expressions writes: a prefix has a sign.
-use Rattle.std.proofs.Common.{◌≡◌, List, [], ◌∷◌, Option, Some, None, ap, subst}
+-- Each production of expressions writes: a prefix has a sign, and a chain a link.
+use Rattle.std.proofs.Common.{◌≡◌, List, [], ◌∷◌, Option, Some, None, ap, refl, subst}
 use Rattle.regent_tree.specs.declared.expression.Operator.{Operator}
 use Rattle.regent_tree.specs.declared.expression.Sign.{Sign}
 use Rattle.regent_tree.specs.Syntax.{Expression}
@@ -12,7 +12,7 @@ use Rattle.regent_grammar.specs.Nodes.{Joined, Stepped, by_field, by_place, chai
 use Rattle.regent_grammar.specs.Rules.{Rule, Sort, an_expression}
 use Rattle.regent_grammar.specs.Types as type
 use Rattle.expression_laws.specs.Writing.{AreLinked, AreStepped, AreWritten, IsWritten}
-use Rattle.text_laws.proofs.Writings.{Written, Writes, arguments', in_parentheses', mark', maybe_listed', name', separated', word', write_gives, write_many, write_one, write_use, write_when, ◌⊛'◌, ◌⊲'◌, ◌⊳'◌}
+use Rattle.written_trees.proofs.Writings.{Written, Writes, arguments', in_parentheses', mark', maybe_listed', name', separated', word', write_gives, write_many, write_one, write_use, write_when, ◌⊛'◌, ◌⊲'◌, ◌⊳'◌}
 
 -- ---- lists
 
@@ -140,7 +140,7 @@ prefix' = write_gives (λ ss h e k. prefix_written ss e k) ⊛' write_many (writ
 
 chain_written : (e : Expression) (js : List Joined) → IsWritten e → Written (Sort.listed Sort.joined) js → IsWritten (chain_of e js)
 chain_written e [] h k = h
-chain_written e (j ∷ js) h k = (h, links_written (j ∷ js) k)
+chain_written e (j ∷ js) h k = (h, links_written (j ∷ js) k, refl)
 
 chain' : (table : Symbol → Option Operator) {member : Rule Sort.expression} → Writes Sort.expression member → Writes Sort.expression (expr.chain table member)
 unfolding expr.chain expr.link expr.an_operator

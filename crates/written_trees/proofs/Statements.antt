@@ -13,9 +13,9 @@ use Rattle.regent_grammar.specs.Rules.{Sort, Value, a_block, an_expression}
 use Rattle.regent_grammar.specs.Singles as single
 use Rattle.regent_grammar.specs.Statements as stmt
 use Rattle.regent_grammar.specs.Types as type
-use Rattle.statement_laws.specs.WrittenStatements.{AreWrittenArms, IsWrittenBlock, IsWrittenElse, IsWrittenForm}
-use Rattle.text_laws.proofs.Expressions.{access', arguments_written, disjunction', expression', kind', number', pointer', some_is, space_use'}
-use Rattle.text_laws.proofs.Writings.{AllWrite, Writes, Written, arguments', cons', in_parentheses', mark', maybe', maybe_listed', name', named', separated', text', the_text', word', write_gives, write_here, write_many, write_one, write_use, write_when, ◌⊛'◌, ◌⊲'◌, ◌⊳'◌}
+use Rattle.expression_laws.specs.WrittenStatements.{AreWrittenArms, IsWrittenBlock, IsWrittenElse, IsWrittenForm}
+use Rattle.written_trees.proofs.Expressions.{access', arguments_written, disjunction', expression', kind', number', pointer', some_is, space_use'}
+use Rattle.written_trees.proofs.Writings.{AllWrite, Writes, Written, arguments', cons', in_parentheses', mark', maybe', maybe_listed', name', named', separated', text', the_text', word', write_gives, write_here, write_many, write_one, write_use, write_when, ◌⊛'◌, ◌⊲'◌, ◌⊳'◌}
 
 block' : Writes Sort.block stmt.block
 unfolding stmt.block

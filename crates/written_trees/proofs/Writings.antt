@@ -13,7 +13,7 @@ use Rattle.regent_grammar.specs.Rules.{Nonterminal, Rule, Sort, Value, both, giv
 use Rattle.regent_grammar.specs.Singles.{a_mark, a_word, arguments, in_parentheses, maybe_listed, name, named, separated, text, the_text}
 use Rattle.regent_grammar.specs.Symbols.{Test}
 use Rattle.expression_laws.specs.Writing.{AreStepped, IsWritten}
-use Rattle.statement_laws.specs.WrittenStatements.{IsWrittenBlock, IsWrittenForm, IsWrittenInitializer, names_field}
+use Rattle.expression_laws.specs.WrittenStatements.{IsWrittenBlock, IsWrittenForm, IsWrittenInitializer, names_field}
 
 abbrev pub IsWrittenStep : Stepped → Type 0
 IsWrittenStep (by_field n) = Unit {0}

@@ -1,4 +1,4 @@
--- Statements as the reader gives them: each of their expressions is one that can be written, and each fill names a field.
+-- Statements as the reader gives them: so is each of their expressions, and each fill names a field.
 use Rattle.std.specs.Prelude.{Bool, false, List, [], ◌∷◌, None, Some, true, ◌≡◌}
 use Rattle.check_rules.specs.scopes.Sound.{StandsIn}
 use Rattle.regent_tree.specs.Syntax.{Arms, Block, Form, Otherwise, Initializer, TaskTree, Tree, a_statement, an_arm, assert_form, assign_form, by_field_initializer, call_form, do_form, else_block, equal_initializer, fill_form, for_in_form, for_to_form, if_form, Name, no_arm, no_else, no_statement, plain_initializer, print_form, region_initializer, return_form, then_statement, var_form, while_form}

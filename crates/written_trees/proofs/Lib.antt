@@ -1,0 +1,4 @@
+pub mod Writings
+pub mod Expressions
+pub mod Statements
+pub mod Texts
