@@ -34,6 +34,8 @@ fn print_told(rt: &HostRuntime, row: &Row) -> io::Result<()> {
         let steps = steps(alloc, row, order, &outcome)?;
         println!(rt; "  {order:?}: {}", steps.as_str())?;
     }
+    let given = given(alloc, row)?;
+    print!(rt; "{}", given.as_str())?;
     if strangers_come_back(alloc, job)? {
         println!(rt; "  strangers come back")
     } else {
@@ -56,6 +58,28 @@ fn journal(alloc: Global, row: &Row) -> Result<String, AllocError> {
         }
     }
     Ok(lines)
+}
+
+/// The operations of the gives, in their order, of a board that is driven by the latest first, where two tasks fail.
+fn given(alloc: Global, row: &Row) -> Result<String, AllocError> {
+    let mut line = String::new(alloc);
+    let Some(job) = row.job(alloc)? else {
+        return Ok(line);
+    };
+    if !row.name().starts_with("two_faults") {
+        return Ok(line);
+    }
+    let mut board = Board::open(alloc, job)?;
+    drive(alloc, &mut board, Order::LatestFirst)?;
+    line.push_str("  given by LatestFirst:")?;
+    for entry in board.journal() {
+        if entry.kind == StepKind::Give {
+            let number = format!(in alloc; " {}", entry.op.0)?;
+            line.push_str(number.as_str())?;
+        }
+    }
+    line.push_str("\n")?;
+    Ok(line)
 }
 
 /// An outcome: the text, and how it ended.

@@ -45,43 +45,72 @@ fn entry(kind: StepKind, seat: u16) -> Entry {
     }
 }
 
-#[test]
-fn main_is_claimed_once(rt: HostRuntime) -> Result<(), Fail> {
-    let mut board = Board::open(rt.alloc(), job_of(rt.alloc(), 0)?)?;
-    assert!(rt; board.claim_at(OpNumber(7), 0)?.is_none());
-    assert!(rt; board.in_progress()?.is_empty());
-    let claim = Claim {
+/// The first claim of main by seat 0.
+fn first_claim() -> Claim {
+    Claim {
         op: OpNumber(0),
         seat: 0,
         turn: 0,
-    };
-    assert_eq!(rt; board.claim(0)?, Some(claim));
-    assert_eq!(rt; board.claim(1)?, None);
-    assert_eq!(rt; board.in_progress()?.as_slice(), [OpNumber(0)].as_slice());
-    assert!(rt; matches!(board.copy(claim)?, Copied::Start(_)));
-    assert!(rt; matches!(board.copy(claim)?, Copied::Gone));
+    }
+}
+
+/// Whether main of a new board is claimed once, and no other operation.
+fn is_claimed_once(board: &mut Board) -> Result<bool, AllocError> {
+    let unknown = board.claim_at(OpNumber(7), 0)?;
+    let idle = board.in_progress()?.is_empty();
+    let first = board.claim(0)?;
+    let second = board.claim(1)?;
+    let main = board.in_progress()?.as_slice() == [OpNumber(0)].as_slice();
+    Ok(unknown.is_none() && idle && first == Some(first_claim()) && second.is_none() && main)
+}
+
+/// Whether a copy starts the segment of this claim.
+fn starts(board: &mut Board, claim: Claim) -> Result<bool, AllocError> {
+    Ok(matches!(board.copy(claim)?, Copied::Start(_)))
+}
+
+/// Whether a copy finds that this claim isn't being filled.
+fn is_gone(board: &mut Board, claim: Claim) -> Result<bool, AllocError> {
+    Ok(matches!(board.copy(claim)?, Copied::Gone))
+}
+
+#[test]
+fn main_is_claimed_once(rt: HostRuntime) -> Result<(), Fail> {
+    let mut board = Board::open(rt.alloc(), job_of(rt.alloc(), 0)?)?;
+    assert!(rt; is_claimed_once(&mut board)?, "claims");
+    assert!(rt; starts(&mut board, first_claim())?, "a copy");
+    assert!(rt; is_gone(&mut board, first_claim())?, "a second copy");
     assert!(rt; board.result().is_none());
     let steps = [entry(StepKind::Claim, 0), entry(StepKind::Copy, 0)];
     assert_eq!(rt; board.journal(), steps.as_slice());
     Ok(())
 }
 
+/// Whether a claim of main can be taken back once.
+fn is_taken_back_once(board: &mut Board) -> Result<bool, AllocError> {
+    let Some(first) = board.claim(3)? else {
+        return Ok(false);
+    };
+    Ok(board.take_back(first) && !board.take_back(first))
+}
+
+/// Whether main is claimed anew by seat 3, under the turn behind that of the first claim, which stays gone; and the claim can
+/// be taken back when its segment has started.
+fn is_claimed_anew(board: &mut Board) -> Result<bool, AllocError> {
+    let Some(second) = board.claim(3)? else {
+        return Ok(false);
+    };
+    let first = Claim { turn: 0, ..second };
+    let gone = is_gone(board, first)? && !board.take_back(first);
+    let started = starts(board, second)?;
+    Ok(second.turn == 1 && gone && started && board.take_back(second))
+}
+
 #[test]
 fn claims_are_taken_back(rt: HostRuntime) -> Result<(), Fail> {
     let mut board = Board::open(rt.alloc(), job_of(rt.alloc(), 0)?)?;
-    let Some(first) = board.claim(3)? else {
-        return Err(Fail::new("main isn't ready"));
-    };
-    assert!(rt; board.take_back(first));
-    assert!(rt; !board.take_back(first));
-    let Some(second) = board.claim(3)? else {
-        return Err(Fail::new("main isn't ready again"));
-    };
-    assert_eq!(rt; second.turn, 1);
-    assert!(rt; matches!(board.copy(first)?, Copied::Gone));
-    assert!(rt; !board.take_back(first));
-    assert!(rt; matches!(board.copy(second)?, Copied::Start(_)));
-    assert!(rt; board.take_back(second));
+    assert!(rt; is_taken_back_once(&mut board)?, "the first claim");
+    assert!(rt; is_claimed_anew(&mut board)?, "the second claim");
     let steps = [
         entry(StepKind::Claim, 3),
         entry(StepKind::Back, 3),
@@ -93,15 +122,25 @@ fn claims_are_taken_back(rt: HostRuntime) -> Result<(), Fail> {
     Ok(())
 }
 
-#[test]
-fn a_void_job_is_broken(rt: HostRuntime) -> Result<(), Fail> {
-    let mut board = Board::open(rt.alloc(), job_of(rt.alloc(), 1)?)?;
-    assert!(rt; board.claim(0)?.is_none());
+/// Whether nothing can be claimed on a board, which has come to nothing, and is broken.
+fn is_broken(board: &mut Board) -> Result<bool, AllocError> {
+    let claimed = board.claim(0)?;
     let broken = match board.result() {
         Some(outcome) => matches!(outcome.ending, Ending::Broken) && outcome.text.is_empty(),
         None => false,
     };
-    assert!(rt; broken);
-    assert!(rt; board.job().same(&job_of(rt.alloc(), 1)?));
+    Ok(claimed.is_none() && broken)
+}
+
+/// Whether a board is of this job.
+fn is_of(board: &Board, job: &Job) -> bool {
+    board.job().same(job)
+}
+
+#[test]
+fn a_void_job_is_broken(rt: HostRuntime) -> Result<(), Fail> {
+    let mut board = Board::open(rt.alloc(), job_of(rt.alloc(), 1)?)?;
+    assert!(rt; is_broken(&mut board)?);
+    assert!(rt; is_of(&board, &job_of(rt.alloc(), 1)?));
     Ok(())
 }

@@ -160,6 +160,31 @@ fn each_write_may_fail(rt: HostRuntime) -> Result<(), Fail> {
     Ok(())
 }
 
+const FAULTED: &str = r#"task main()
+  regentlib.c.printf("a")
+  regentlib.assert(false, "no")
+end
+"#;
+
+#[test]
+fn each_write_behind_the_output_may_fail(rt: HostRuntime) -> Result<(), Fail> {
+    for (out, err, wanted) in [
+        (0, 0, "1|a|fault: AssertFailed at line 3\n"),
+        (1, 0, "4||"),
+        (0, 1, "4|a|"),
+        (0, 2, "4|a|f"),
+    ] {
+        let faults = Faults {
+            source: 0,
+            out,
+            err,
+        };
+        let told = run_text(&rt, rt.alloc(), FAULTED, &faults)?;
+        assert_eq!(rt; told.as_str(), wanted, "calls {out} and {err}");
+    }
+    Ok(())
+}
+
 #[test]
 fn each_write_of_an_error_line_may_fail(rt: HostRuntime) -> Result<(), Fail> {
     for (err, wanted) in [

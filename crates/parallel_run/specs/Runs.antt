@@ -6,7 +6,7 @@ use Rattle.run_journal.specs.Journals.{text_of}
 use Rattle.board_terms.specs.Outcomes.{result}
 use Rattle.board_terms.specs.Replays.{replay}
 use Rattle.board_terms.specs.Stages.{has_finished}
-use Rattle.task_core.specs.Boards.{Standing}
+use Rattle.worker_run.specs.Boards.{Standing}
 use Rattle.parallel_run.specs.declared.origin.Origin.{Origin}
 use Rattle.parallel_run.specs.declared.origin.Origin.TheVariants as origin
 use Rattle.parallel_run.specs.declared.ran.Ran.{Ran}

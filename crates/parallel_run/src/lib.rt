@@ -8,3 +8,4 @@ mod run;
 pub use origin::{Origin, Settled, settle_run};
 pub use ran::Ran;
 pub use run::run_job;
+pub use worker_run::{Gate, OpenGate};

@@ -10,7 +10,7 @@ use plain_run::{copy_outcome, run_in_order};
 use regent_tree::Outcome;
 use std::alloc::{AllocError, Global};
 use task_code::Job;
-use task_core::Board;
+use worker_run::Board;
 
 /// Where an outcome is from.
 #[derive(Clone, Copy, Debug, PartialEq, Eq)]

@@ -7,7 +7,7 @@ ghost use Rattle.parallel_run.specs.Runs.{outcome_of, trace_of};
 use regent_tree::Outcome;
 use run_journal::journal_text;
 use std::alloc::{AllocError, Global};
-use task_core::Board;
+use worker_run::Board;
 
 /// How a job ran to its end.
 #[derive(Drop)]

@@ -11,9 +11,7 @@ use std::alloc::{AllocError, Global};
 use std::sync::Wait;
 use std::thread::Threads;
 use task_code::Job;
-use task_core::Board;
-use worker_gate::Gate;
-use worker_run::run_by_workers;
+use worker_run::{Board, Gate, run_by_workers};
 
 /// Runs a job by so many workers, and in order where there are none, or where the board that they leave can't be used.
 ///

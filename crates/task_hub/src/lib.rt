@@ -9,3 +9,4 @@ mod seat;
 pub use hub::Hub;
 pub use locked::Locked;
 pub use seat::Seat;
+pub use task_core::Board;

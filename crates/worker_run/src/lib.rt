@@ -4,3 +4,5 @@
 mod run;
 
 pub use run::run_by_workers;
+pub use task_hub::Board;
+pub use worker_gate::{Gate, OpenGate};

@@ -1,7 +1,7 @@
 //! Workers in threads.
 
 ghost use Rattle.std.specs.Prelude.{◌≡◌};
-ghost use Rattle.task_core.specs.Desks.{new_seat};
+ghost use Rattle.task_hub.specs.Boards.{new_seat};
 
 use std::alloc::{AllocError, Global};
 use std::marker::Brand;
@@ -10,8 +10,7 @@ use std::sync::ledger::{Blank, Ledger};
 use std::thread;
 use std::thread::Threads;
 use task_code::Job;
-use task_core::Board;
-use task_hub::{Hub, Seat};
+use task_hub::{Board, Hub, Seat};
 use worker_gate::{Gate, work};
 
 /// Runs a job by so many workers, each in a thread of its own where one can be had, and gives the board back when all have

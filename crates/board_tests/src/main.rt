@@ -11,3 +11,6 @@ mod gates;
 mod parallel;
 #[cfg(test)]
 mod workers;
+
+/// The tests alone are run: the program itself does nothing.
+fn main() {}

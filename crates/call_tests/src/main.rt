@@ -11,3 +11,6 @@ mod pictures;
 mod sources;
 #[cfg(test)]
 mod words;
+
+/// The tests alone are run: the program itself does nothing.
+fn main() {}
