@@ -1,6 +1,6 @@
 -- An operation calls: it goes on beside its children, or is broken, and each that is called begins in a frame that fits.
 use Rattle.std.proofs.Common.{◌≡◌, ⊎_elim, ℕ, suc, ◌<◌, ◌^◌, ◌+◌, pos, List, [], ◌++◌, Bool, true, false, Some, refl, sym, ap, ◌∙◌, subst, arith, length, map, eqb-true}
-use Rattle.std.specs.Prelude.{get_or, set, slice_get, ◌==◌}
+use Rattle.std.specs.Prelude.{get_or, set, slice_get, take, ◌==◌}
 use Rattle.std.proofs.lemmas.Bool.{cases_eq}
 use Rattle.std.proofs.lemmas.List.{get_or_append_left, get_or-set_other, get_or-set_same, length-append, length-map, length-set}
 use Rattle.plain_values.specs.Points.{counted_from}
@@ -23,14 +23,14 @@ use Rattle.board_terms.specs.States.{State, called_by, no_operation, operation_a
 use Rattle.fit_rules.specs.Shapes.{Each, NumberIs, Shape}
 use Rattle.fit_rules.specs.Fits.{Fits, Program}
 use Rattle.fit_rules.specs.Ends.{CallsWell, grown_by}
-use Rattle.fit_boards.specs.Fitting.{DoesFit, Gives, Going, MapFits, OperationFits, space_at, StateFits}
+use Rattle.fit_boards.specs.Fitting.{DoesFit, Gives, Going, MapFits, OperationFits, points_at, space_at, StateFits}
 use Rattle.fit_boards.specs.Steps.{ArePlaced}
-use Rattle.fit_boards.proofs.Children.{all_more, AreOpened, children_fit, claims_by, frames_opened, HasChildren, known_by, rows_are, RowsAre}
+use Rattle.fit_boards.proofs.Children.{all_more, are_issued, AreIssued, AreOpened, children_fit, claims_by, frames_opened, HasChildren, known_by, many_issued, rows_are, RowsAre}
 use Rattle.fit_boards.proofs.Given.{behind_of, HasRun, IsLike, left_of, map_back, row_again}
 use Rattle.fit_boards.proofs.Rows.{open_gives}
-use Rattle.fit_boards.proofs.Staying.{known_stay, needs_stay, nodes_same, results_stay, roots_same, state_fits, Stays}
+use Rattle.fit_boards.proofs.Staying.{calls_more, known_stay, needs_stay, nodes_same, results_stay, roots_same, state_fits, Stays}
 
-module _ (g : Program) (zeros : (n : ℕ) → NumberIs (g.results n) (pos 0)) (turns : ℕ) (few : turns < 2 ^ 64) (s : State) (k : ℕ) (ps : List Part) (run : HasRun g s k ps)
+module _ (g : Program) (zeros : (n : ℕ) → NumberIs (g.results n) (pos 0)) (turns : ℕ) (few : turns < 2 ^ 64) (log : List CallOut) (s : State) (k : ℕ) (ps : List Part) (run : HasRun g log s k ps)
     (said : List Said) (f : Frame) (like : IsLike (operation_at s k) f) (cs : List CallOut) (well : Each (CallsWell g run.going.world run.going.task) cs)
     (placed : Each (λ (c : CallOut). ArePlaced s.tree c.args) cs)
     (met : Fits g (grown_by g run.going.world cs) run.going.task (operation_at s k).frame.task (record { frame = f; parts = [] })) where
@@ -58,6 +58,10 @@ module _ (g : Program) (zeros : (n : ℕ) → NumberIs (g.results n) (pos 0)) (t
 
   are_opened : AreOpened g turns (suc (operation_at back k).frame.depth) opened cs
   are_opened = frames_opened g turns back (operation_at back k) cs
+
+  -- the calls by which operations are issued
+  abbrev pub issued_now : List CallOut
+  issued_now = take (length opened) cs
 
   -- ---- the calls are issued
 
@@ -89,10 +93,15 @@ module _ (g : Program) (zeros : (n : ℕ) → NumberIs (g.results n) (pos 0)) (t
     new_rows = subst (λ n. RowsAre u k n opened) (length-set s.operations k caller) (rows_are u k (set s.operations k caller) opened known_rows)
 
     module _ (gives : (sh : Shape) → Gives g sh o → Gives g sh caller) where
-      stays : Stays g s u
+      -- with the calls by which these are issued
+      abbrev more : List CallOut
+      more = log ++ issued_now
+
+      stays : Stays g log more s u
       stays = record {
+        calls = calls_more log issued_now;
         nodes = subst (λ v. (n : ℕ) → n < length s.tree.nodes → (n < length v.nodes) × (set_at v n ≡ set_at s.tree n)) (sym tree) (nodes_same s.tree);
-        roots = subst (λ es. (r : ℕ) → r < length s.roots → (r < length es) × (space_at es r ≡ space_at s.roots r)) (sym roots) (roots_same s.roots);
+        roots = subst (λ es. (r : ℕ) → r < length s.roots → (r < length es) × (space_at es r ≡ space_at s.roots r) × (points_at es r ≡ points_at s.roots r)) (sym roots) (roots_same s.roots);
         gives = λ j l. (
           omega (arith, l, long),
           λ sh q. ⊎_elim
@@ -102,26 +111,40 @@ module _ (g : Program) (zeros : (n : ℕ) → NumberIs (g.results n) (pos 0)) (t
         );
       }
 
-      all_fit : OperationFits g u caller → StateFits g u
-      all_fit here = state_fits g s u stays run.fits k
+      issued_here : AreIssued more (length s.operations) opened cs
+      issued_here = subst (λ n. AreIssued more n opened cs) run.fits.issued
+          (are_issued g turns (suc (operation_at back k).frame.depth) log opened cs are_opened)
+
+      many : length more ≡ length u.operations
+      many =
+          let both = length-append log issued_now in
+          let new = many_issued g turns (suc (operation_at back k).frame.depth) opened cs are_opened in omega (arith, long, both, new, run.fits.issued)
+
+      all_fit : OperationFits g more u k caller → StateFits g more u
+      all_fit here = state_fits g log more s u stays run.fits many k
           ((λ i. (tree i).roots) ∙ run.fits.counted ∙ ap length (sym roots))
-          (subst (λ es. MapFits g es u.map) (sym roots) (subst (MapFits g s.roots) (sym live) (map_back g s k ps run said (Some f))))
-          row_old (subst (λ (z : Operation). OperationFits g u z) (sym row_here) here)
-          (λ j l m. children_fit u k g zeros turns (suc (operation_at back k).frame.depth) few run.going.world run.going.task (known_stay g s u stays run.going.world run.going.roots) (length s.operations) opened cs are_opened well
+          (subst (λ es. MapFits g es u.map) (sym roots) (subst (MapFits g s.roots) (sym live) (map_back g log s k ps run said (Some f))))
+          row_old (subst (λ (z : Operation). OperationFits g more u k z) (sym row_here) here)
+          (λ j l m. children_fit u k g zeros turns (suc (operation_at back k).frame.depth) few more run.going.world run.going.task (known_stay g log more s u stays run.going.world run.going.roots) (length s.operations) opened cs are_opened issued_here well
           (subst (λ v. Each (λ (c : CallOut). ArePlaced v c.args) cs) (sym tree) placed) new_rows j l (omega (arith, m, long)))
 
       -- it goes on where all of them are
-      goes_on : a ≡ activity.Idle → length opened ≡ length cs → Going g u caller
-      goes_on idle many =
+      goes_on : a ≡ activity.Idle → length opened ≡ length cs → Going g more u k caller
+      goes_on idle each =
           let needs = needs_stay s.tree u.tree stays.nodes o.frame.needs.items run.going.nodes in
-          let first : HasChildren u k g zeros turns (suc (operation_at back k).frame.depth) few run.going.world o.children = (run.going.count, results_stay g s u stays o.children run.going.world.children run.going.world.results run.going.results) in
-          let all = all_more u k g zeros turns (suc (operation_at back k).frame.depth) few (length s.operations) opened cs many are_opened new_rows run.going.world o.children first in
-          let kids = subst (λ n. HasChildren u k g zeros turns (suc (operation_at back k).frame.depth) few (grown_by g run.going.world cs) (o.children ++ map number (counted_from n (length opened)))) (sym back_long) all in
+          let first : HasChildren u k g zeros turns (suc (operation_at back k).frame.depth) few more run.going.world o.children = (run.going.count, results_stay g log more s u stays o.children run.going.world.children run.going.world.results run.going.results) in
+          let all = all_more u k g zeros turns (suc (operation_at back k).frame.depth) few more (length s.operations) opened cs each are_opened issued_here new_rows run.going.world o.children first in
+          let kids = subst (λ n. HasChildren u k g zeros turns (suc (operation_at back k).frame.depth) few more (grown_by g run.going.world cs) (o.children ++ map number (counted_from n (length opened)))) (sym back_long) all in
           record {
             world = grown_by g run.going.world cs;
             task = run.going.task;
             there = ap (slice_get g.code.tasks) like.1 ∙ run.going.there;
-            roots = known_by g (λ there spaces. (r : ℕ) → there r ≡ true → (r < length u.roots) × (spaces r ≡ space_at u.roots r)) cs run.going.world (known_stay g s u stays run.going.world run.going.roots);
+            call = run.going.call;
+            issued = calls_more log issued_now k run.going.call run.going.issued;
+            named = like.1 ∙ run.going.named;
+            args = known_by g (λ there spaces points args. args ≡ run.going.call.args) cs run.going.world run.going.args;
+            roots = known_by g (λ there spaces points args. (r : ℕ) → there r ≡ true → (r < length u.roots) × (spaces r ≡ space_at u.roots r) × (points r ≡ points_at u.roots r)) cs run.going.world
+                (known_stay g log more s u stays run.going.world run.going.roots);
             nodes = subst (λ (n : Needs). Each (λ (m : Need). m.node.0 < length u.tree.nodes) n.items) (sym like.0) needs.0;
             required = ap (λ (n : Needs). requirements_of u.tree n.items) like.0 ∙ needs.1 ∙ run.going.required ∙ sym (claims_by g run.going.task cs run.going.world);
             once = tt;
@@ -133,10 +156,13 @@ module _ (g : Program) (zeros : (n : ℕ) → NumberIs (g.results n) (pos 0)) (t
 
   -- ---- both
 
-  pub calls_fit : StateFits g (called g.code turns back k cs)
+  pub these_issued : issued_now ≡ take (length issued_now) cs
+  these_issued = ap (λ n. take n cs) (sym (many_issued g turns (suc (operation_at back k).frame.depth) opened cs are_opened))
+
+  pub calls_fit : StateFits g (log ++ issued_now) (called g.code turns back k cs)
   calls_fit = of (length opened == length cs) refl
     where
-      of : (b : Bool) → length opened == length cs ≡ b → StateFits g (called_in back k opened b)
+      of : (b : Bool) → length opened == length cs ≡ b → StateFits g (log ++ issued_now) (called_in back k opened b)
       of true e =
           let gives : (sh : Shape) → Gives g sh o → Gives g sh (caller_of back stopped opened activity.Idle) = λ sh q. open_gives g sh o (caller_of back stopped opened activity.Idle) run.was tt like.1 q in
           all_fit activity.Idle (called_in back k opened true) refl refl refl refl gives

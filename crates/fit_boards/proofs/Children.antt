@@ -1,6 +1,6 @@
 -- Operations that are called: each begins in a frame that fits, and gives its caller what is of its task's result type.
 use Rattle.std.proofs.Common.{◌≡◌, ⊎_elim, ℕ, zero, suc, ◌<◌, ◌≤◌, ◌^◌, ◌+◌, pos, List, [], ◌∷◌, ◌++◌, Bool, true, false, ◌&&◌, cond, Some, None, Option, refl, sym, ap, ◌∙◌, subst, arith, length, map, append-nil, append_assoc, eqb-true}
-use Rattle.std.specs.Prelude.{get_or, nat_le, slice_get, ◌==◌}
+use Rattle.std.specs.Prelude.{get_or, nat_le, slice_get, take, ◌==◌}
 use Rattle.std.proofs.lemmas.Bool.{cases_eq, eqb-false}
 use Rattle.std.proofs.lemmas.List.{get_or-append-add, length-append}
 use Rattle.std.proofs.lemmas.Option.{same_Some}
@@ -25,7 +25,7 @@ use Rattle.fit_rules.specs.Shapes.{Each, NumberIs, Shape, World}
 use Rattle.fit_rules.specs.Fits.{claim_on, claims, declared_claims, Fits, Program, requires}
 use Rattle.fit_rules.specs.Ends.{called, CallsWell, grown, grown_by, opening_machine}
 use Rattle.fit_laws.proofs.Calls.{claims_grown}
-use Rattle.fit_boards.specs.Fitting.{ChildGives, Gives, Going, OperationFits, space_at}
+use Rattle.fit_boards.specs.Fitting.{ChildGives, Gives, Going, IsRootOf, OperationFits}
 use Rattle.fit_boards.specs.Steps.{ArePlaced}
 
 -- ---- what a task needs on placed arguments
@@ -74,6 +74,36 @@ frames_opened g turns s o (c ∷ cs) = of (slice_get g.code.tasks c.task) refl (
     of None e more = tt
     of (Some t) e more = by_test t e (nat_le (length c.args) t.slots && (are_declared s t.needs c.args && needs_within s (opening_of g.code turns o c t) o)) more
 
+-- ---- the calls by which they are issued
+
+-- those of the first frames are, from a number on
+abbrev pub AreIssued : List CallOut → ℕ → List Frame → List CallOut → Type 0
+AreIssued log first [] cs = Unit {0}
+AreIssued log first (f ∷ fs) [] = ⊥
+AreIssued log first (f ∷ fs) (c ∷ cs) = (slice_get log first ≡ Some c) × AreIssued log (suc first) fs cs
+
+pub are_issued : (g : Program) (turns depth : ℕ) (log : List CallOut) (fs : List Frame) (cs : List CallOut) → AreOpened g turns depth fs cs →
+    AreIssued (log ++ take (length fs) cs) (length log) fs cs
+are_issued g turns depth log [] cs o = tt
+are_issued g turns depth log (f ∷ fs) [] o = absurd o
+are_issued g turns depth log (f ∷ fs) (c ∷ cs) o =
+    let rest = take (length fs) cs in
+    let more : length (log ++ c ∷ []) ≡ suc (length log) = (let l = length-append log (c ∷ []) in omega (arith, l)) in (
+      seam log rest,
+      subst (λ n. AreIssued (log ++ c ∷ rest) n fs cs) more
+          (subst (λ l. AreIssued l (length (log ++ c ∷ [])) fs cs) (append_assoc log (c ∷ []) rest) (are_issued g turns depth (log ++ c ∷ []) fs cs o.1)),
+    )
+  where
+    seam : (log rest : List CallOut) → slice_get (log ++ c ∷ rest) (length log) ≡ Some c
+    seam [] rest = refl
+    seam (d ∷ log) rest = seam log rest
+
+-- as many as frames are opened
+pub many_issued : (g : Program) (turns depth : ℕ) (fs : List Frame) (cs : List CallOut) → AreOpened g turns depth fs cs → length (take (length fs) cs) ≡ length fs
+many_issued g turns depth [] cs o = refl
+many_issued g turns depth (f ∷ fs) [] o = absurd o
+many_issued g turns depth (f ∷ fs) (c ∷ cs) o = ap suc (many_issued g turns depth fs cs o.1)
+
 -- ---- rows that come behind all
 
 module _ (u : State) (k : ℕ) where
@@ -97,14 +127,18 @@ module _ (u : State) (k : ℕ) where
   module _ (g : Program) (zeros : (n : ℕ) → NumberIs (g.results n) (pos 0)) (turns depth : ℕ) (few : turns < 2 ^ 64) where
     -- ---- each of them fits
 
-    module _ (x : World) (t : TaskCode) (known : (r : ℕ) → x.there r ≡ true → (r < length u.roots) × (x.spaces r ≡ space_at u.roots r)) where
-      child_going : (c : CallOut) (callee : TaskCode) → CallsWell g x t c → ArePlaced u.tree c.args → slice_get g.code.tasks c.task ≡ Some callee →
-          Going g u (called_by (number k) (opening turns depth c.task callee c.args))
-      child_going c callee w placed there =
+    module _ (log : List CallOut) (x : World) (t : TaskCode) (known : (r : ℕ) → x.there r ≡ true → IsRootOf u.roots x r) where
+      child_going : (j : ℕ) (c : CallOut) (callee : TaskCode) → slice_get log j ≡ Some c → CallsWell g x t c → ArePlaced u.tree c.args →
+          slice_get g.code.tasks c.task ≡ Some callee → Going g log u j (called_by (number k) (opening turns depth c.task callee c.args))
+      child_going j c callee issued w placed there =
           let needs = needs_placed u.tree c.args placed callee.needs in record {
             world = called x c.args;
             task = callee;
             there = there;
+            call = c;
+            issued = issued;
+            named = refl;
+            args = refl;
             roots = known;
             nodes = needs.0;
             required = needs.1 ∙ sym (append-nil (declared_claims callee.needs c.args));
@@ -116,22 +150,22 @@ module _ (u : State) (k : ℕ) where
             does = tt;
           }
 
-      pub children_fit : (first : ℕ) (fs : List Frame) (cs : List CallOut) → AreOpened g turns depth fs cs → Each (CallsWell g x t) cs →
-          Each (λ (c : CallOut). ArePlaced u.tree c.args) cs → RowsAre first fs → (j : ℕ) → first ≤ j → j < first + length fs → OperationFits g u (operation_at u j)
-      children_fit first [] cs o w p r j l m = absurd (omega (arith, l, m))
-      children_fit first (f ∷ fs) [] o w p r j l m = absurd o
-      children_fit first (f ∷ fs) (c ∷ cs) o w p r j l m = ⊎_elim
-          (λ e. subst (λ n. OperationFits g u (operation_at u n)) (sym e)
-          (subst (λ (q : Operation). OperationFits g u q) (sym r.1)
-          (subst (λ (n : Frame). Going g u (called_by (number k) n)) (sym o.0.2) (child_going c o.0.0 w.0 p.0 o.0.1))))
-          (λ n. children_fit (suc first) fs cs o.1 w.1 p.1 r.2 j (omega (arith, l, n)) (omega (arith, m)))
+      pub children_fit : (first : ℕ) (fs : List Frame) (cs : List CallOut) → AreOpened g turns depth fs cs → AreIssued log first fs cs → Each (CallsWell g x t) cs →
+          Each (λ (c : CallOut). ArePlaced u.tree c.args) cs → RowsAre first fs → (j : ℕ) → first ≤ j → j < first + length fs → OperationFits g log u j (operation_at u j)
+      children_fit first [] cs o i w p r j l m = absurd (omega (arith, l, m))
+      children_fit first (f ∷ fs) [] o i w p r j l m = absurd o
+      children_fit first (f ∷ fs) (c ∷ cs) o i w p r j l m = ⊎_elim
+          (λ e. subst (λ n. OperationFits g log u n (operation_at u n)) (sym e)
+          (subst (λ (q : Operation). OperationFits g log u first q) (sym r.1)
+          (subst (λ (n : Frame). Going g log u first (called_by (number k) n)) (sym o.0.2) (child_going first c o.0.0 i.0 w.0 p.0 o.0.1))))
+          (λ n. children_fit (suc first) fs cs o.1 i.1 w.1 p.1 r.2 j (omega (arith, l, n)) (omega (arith, m)))
           (cases_eq j first)
 
     -- ---- what they give
 
     -- a caller's children are as many as its world says, and give what is of its shapes
-    abbrev pub HasChildren : World → List OpNumber → Type 0
-    HasChildren x ks = (length ks ≡ x.children) × ((n : ℕ) → n < x.children → ChildGives g u (x.results n) (slice_get ks n))
+    abbrev pub HasChildren : List CallOut → World → List OpNumber → Type 0
+    HasChildren log x ks = (length ks ≡ x.children) × ((n : ℕ) → n < x.children → ChildGives g log u (x.results n) (slice_get ks n))
 
     slice_front : (ks : List OpNumber) (c : OpNumber) (n : ℕ) → n < length ks → slice_get (ks ++ c ∷ []) n ≡ slice_get ks n
     slice_front [] c n l = absurd (omega (arith, l))
@@ -142,33 +176,35 @@ module _ (u : State) (k : ℕ) where
     slice_last [] c = refl
     slice_last (x ∷ ks) c = slice_last ks c
 
-    one_more : (x : World) (ks : List OpNumber) (sh : Shape) (c : OpNumber) → HasChildren x ks → ChildGives g u sh (Some c) → HasChildren (grown x sh) (ks ++ c ∷ [])
-    one_more x ks sh c h gives = (
+    one_more : (log : List CallOut) (x : World) (ks : List OpNumber) (sh : Shape) (c : OpNumber) → HasChildren log x ks → ChildGives g log u sh (Some c) → HasChildren log (grown x sh) (ks ++ c ∷ [])
+    one_more log x ks sh c h gives = (
       (let l = length-append ks (c ∷ []) in omega (arith, l, h.0)),
       λ n l. of n (n == x.children) refl l,
     )
       where
-        of : (n : ℕ) (b : Bool) → n == x.children ≡ b → n < suc x.children → ChildGives g u (cond b sh (x.results n)) (slice_get (ks ++ c ∷ []) n)
-        of n true e l = subst (ChildGives g u sh) (sym (ap (slice_get (ks ++ c ∷ [])) (eqb-true n x.children e ∙ sym h.0) ∙ slice_last ks c)) gives
+        of : (n : ℕ) (b : Bool) → n == x.children ≡ b → n < suc x.children → ChildGives g log u (cond b sh (x.results n)) (slice_get (ks ++ c ∷ []) n)
+        of n true e l = subst (ChildGives g log u sh) (sym (ap (slice_get (ks ++ c ∷ [])) (eqb-true n x.children e ∙ sym h.0) ∙ slice_last ks c)) gives
         of n false e l =
             let low : n < x.children = (let d = eqb-false n x.children e in omega (arith, l, d)) in
-            subst (ChildGives g u (x.results n)) (sym (slice_front ks c n (omega (arith, low, h.0)))) (h.1 n low)
+            subst (ChildGives g log u (x.results n)) (sym (slice_front ks c n (omega (arith, low, h.0)))) (h.1 n low)
 
-    pub all_more : (first : ℕ) (fs : List Frame) (cs : List CallOut) → length fs ≡ length cs → AreOpened g turns depth fs cs → RowsAre first fs → (x : World) (ks : List OpNumber) →
-        HasChildren x ks → HasChildren (grown_by g x cs) (ks ++ map number (counted_from first (length fs)))
-    all_more first [] [] e o r x ks h = subst (HasChildren x) (sym (append-nil ks)) h
-    all_more first [] (c ∷ cs) e o r x ks h = absurd (omega (arith, e))
-    all_more first (f ∷ fs) [] e o r x ks h = absurd o
-    all_more first (f ∷ fs) (c ∷ cs) e o r x ks h =
+    pub all_more : (log : List CallOut) (first : ℕ) (fs : List Frame) (cs : List CallOut) → length fs ≡ length cs → AreOpened g turns depth fs cs → AreIssued log first fs cs →
+        RowsAre first fs → (x : World) (ks : List OpNumber) → HasChildren log x ks → HasChildren log (grown_by g x cs) (ks ++ map number (counted_from first (length fs)))
+    all_more log first [] [] e o i r x ks h = subst (HasChildren log x) (sym (append-nil ks)) h
+    all_more log first [] (c ∷ cs) e o i r x ks h = absurd (omega (arith, e))
+    all_more log first (f ∷ fs) [] e o i r x ks h = absurd o
+    all_more log first (f ∷ fs) (c ∷ cs) e o i r x ks h =
         let sh = g.results c.task in
-        subst (HasChildren (grown_by g x (c ∷ cs))) (append_assoc ks (number first ∷ []) (map number (counted_from (suc first) (length fs))))
-        (all_more (suc first) fs cs (omega (arith, e)) o.1 r.2 (grown x sh) (ks ++ number first ∷ [])
-        (one_more x ks sh (number first) h (r.0, subst (λ (q : Operation). Gives g sh q) (sym r.1) (zeros c.task, ap (λ (n : Frame). g.results n.task) (sym o.0.2)))))
+        subst (HasChildren log (grown_by g x (c ∷ cs))) (append_assoc ks (number first ∷ []) (map number (counted_from (suc first) (length fs))))
+        (all_more log (suc first) fs cs (omega (arith, e)) o.1 i.1 r.2 (grown x sh) (ks ++ number first ∷ [])
+        (one_more log x ks sh (number first) h
+        (r.0, subst (λ (q : Operation). Gives g sh q) (sym r.1) (zeros c.task, ap (λ (n : Frame). g.results n.task) (sym o.0.2)), (c, i.0, refl))))
 
 -- ---- the caller's world
 
 -- the roots that are there stay
-pub known_by : (g : Program) (P : (ℕ → Bool) → (ℕ → ℕ) → Type 0) (cs : List CallOut) (x : World) → P x.there x.spaces → P (grown_by g x cs).there (grown_by g x cs).spaces
+pub known_by : (g : Program) (P : (ℕ → Bool) → (ℕ → ℕ) → (ℕ → List ℕ) → List Value → Type 0) (cs : List CallOut) (x : World) → P x.there x.spaces x.points x.args →
+    P (grown_by g x cs).there (grown_by g x cs).spaces (grown_by g x cs).points (grown_by g x cs).args
 known_by g P [] x h = h
 known_by g P (c ∷ cs) x h = known_by g P cs (grown x (g.results c.task)) h
 

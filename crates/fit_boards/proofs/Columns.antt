@@ -6,6 +6,7 @@ use Rattle.std.proofs.lemmas.Int.{ints}
 use Rattle.std.proofs.lemmas.List.{get_or-map, get_or_append_left, get_or-append-add, length-append, length-map}
 use Rattle.lane_kernels.specs.declared.numbers.FieldKind.{FieldKind}
 use Rattle.lane_kernels.specs.declared.numbers.FieldKind.TheVariants as kind
+use Rattle.plain_values.specs.Points.{points}
 use Rattle.region_tree.specs.declared.tree.RootId.{RootId}
 use Rattle.logical_map.specs.Maps.{Column, LogicalMap, LiveRoot, closed, column_of, columns_of, is_root, new_column, no_column, number_beside, number_in_column, number_or_zero, on_column, on_field, opened, zero_of}
 use Rattle.logical_map.proofs.Beside.{beside_more, beside_no_number}
@@ -17,7 +18,7 @@ use Rattle.board_terms.specs.Closings.{closed_all}
 use Rattle.board_terms.specs.States.{no_extent}
 use Rattle.fit_rules.specs.Shapes.{Each, NumberIs}
 use Rattle.fit_rules.specs.Fits.{kept_as, kind_at, Program, shape_at}
-use Rattle.fit_boards.specs.Fitting.{ColumnFits, MapFits, space_at}
+use Rattle.fit_boards.specs.Fitting.{ColumnFits, MapFits, points_at, space_at}
 use Rattle.fit_boards.proofs.Staying.{RootsStay}
 
 -- ---- numbers of a column
@@ -135,8 +136,16 @@ module _ (g : Program) (extents : List Extent) (more : Extent) where
       let last : length extents ≡ length extents + 0 = omega arith in
       ap (space_at behind) last ∙ ap (λ (e : Extent). e.space) (get_or-append-add extents (more ∷ []) 0 no_extent)
 
+  old_points : (r : ℕ) → r < length extents → points_at behind r ≡ points_at extents r
+  old_points r l = ap (λ (e : Extent). points e.count) (get_or_append_left extents (more ∷ []) no_extent r l)
+
+  pub new_points : points_at behind (length extents) ≡ points more.count
+  new_points =
+      let last : length extents ≡ length extents + 0 = omega arith in
+      ap (points_at behind) last ∙ ap (λ (e : Extent). points e.count) (get_or-append-add extents (more ∷ []) 0 no_extent)
+
   pub extents_stay : RootsStay extents behind
-  extents_stay r l = (omega (arith, longer, l), old_space r l)
+  extents_stay r l = (omega (arith, longer, l), old_space r l, old_points r l)
 
   pub new_root_there : length extents < length behind
   new_root_there = omega (arith, longer)

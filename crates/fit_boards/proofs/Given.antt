@@ -8,6 +8,7 @@ use Rattle.region_tree.specs.declared.needs.Needs.{Needs}
 use Rattle.region_tree.specs.declared.piece.Part.{Part}
 use Rattle.dependence_graph.specs.Graphs.{Waits}
 use Rattle.machine_terms.specs.declared.frame.Frame.{Frame}
+use Rattle.machine_terms.specs.declared.outcome.CallOut.{CallOut}
 use Rattle.board_terms.specs.declared.operation.Activity.TheVariants as activity
 use Rattle.board_terms.specs.declared.operation.Ending.{Ending}
 use Rattle.board_terms.specs.declared.operation.Ending.TheVariants as ending
@@ -47,16 +48,16 @@ abbrev pub behind_of : State → ℕ → List Part → List Said → Option Fram
 behind_of s k ps said fo = with_operation s k (left_of (operation_at s k) ps said fo)
 
 -- an operation that was out and whose segment was run, on a board that fits, and the parts that it left
-pub record HasRun (g : Program) (s : State) (k : ℕ) (ps : List Part) : Type 0 where
-  pub fits : StateFits g s
+pub record HasRun (g : Program) (log : List CallOut) (s : State) (k : ℕ) (ps : List Part) : Type 0 where
+  pub fits : StateFits g log s
   pub within : k < length s.operations
   pub was : IsOpen (operation_at s k).activity
-  pub going : Going g s (operation_at s k)
+  pub going : Going g log s k (operation_at s k)
   pub knows : KnowsRoots going.world
   pub once : AreOnce ps
   pub parts : PartsFit g going.world going.task ps
 
-module _ (g : Program) (s : State) (k : ℕ) (ps : List Part) (run : HasRun g s k ps) (said : List Said) where
+module _ (g : Program) (log : List CallOut) (s : State) (k : ℕ) (ps : List Part) (run : HasRun g log s k ps) (said : List Said) where
   abbrev o : Operation
   o = operation_at s k
 
@@ -82,16 +83,16 @@ module _ (g : Program) (s : State) (k : ℕ) (ps : List Part) (run : HasRun g s 
       of ending.Broken r = tt
 
   closing_fits : (e : Ending) → ((v : Option ℤ) → e ≡ ending.Value v → ResultIs (g.results o.frame.task) v) → (q : Operation) → q.activity ≡ activity.Closing e →
-      (os : List Operation) → os ≡ set s.operations k q → (m : LogicalMap) → MapFits g s.roots m → StateFits g (record s { operations = os; map = m })
+      (os : List Operation) → os ≡ set s.operations k q → (m : LogicalMap) → MapFits g s.roots m → StateFits g log (record s { operations = os; map = m })
   closing_fits e result q is os rows m map =
-      one_fits g s (record s { operations = os; map = m }) k q run.within rows (nodes_same s.tree) (roots_same s.roots) (gives_end e result q is) run.fits run.fits.counted map
-      (subst (fits_by g (record s { operations = os; map = m }) q) (sym is) tt)
+      one_fits g log s (record s { operations = os; map = m }) k q run.within rows (nodes_same s.tree) (roots_same s.roots) (gives_end e result q is) run.fits run.fits.counted map
+      (subst (fits_by g log (record s { operations = os; map = m }) k q) (sym is) tt)
 
   no_value : (e : Ending) → ((v : Option ℤ) → e ≡ ending.Value v → ⊥) → (v : Option ℤ) → e ≡ ending.Value v → ResultIs (g.results o.frame.task) v
   no_value e none v d = absurd (none v d)
 
   -- it ends where it stands
-  pub ends_fit : (e : Ending) → ((v : Option ℤ) → e ≡ ending.Value v → ⊥) → (fo : Option Frame) → StateFits g (ended_by (behind fo) k e)
+  pub ends_fit : (e : Ending) → ((v : Option ℤ) → e ≡ ending.Value v → ⊥) → (fo : Option Frame) → StateFits g log (ended_by (behind fo) k e)
   ends_fit e none fo = closing_fits e (no_value e none) (record (left fo) { parts = []; activity = activity.Closing e }) refl
       (ended_by (behind fo) k e).operations
       (row_again s (behind fo) k (left fo) run.within refl (λ q. record q { parts = []; activity = activity.Closing e })) s.map run.fits.map
@@ -103,7 +104,7 @@ module _ (g : Program) (s : State) (k : ℕ) (ps : List Part) (run : HasRun g s 
   pub map_back : (fo : Option Frame) → MapFits g s.roots (parts_given (behind fo) k).map
   map_back fo = subst (λ (q : Operation). MapFits g s.roots (with_parts q.parts s.map)) (sym (row_there s (behind fo) k (left fo) run.within refl)) map_given
 
-  pub value_fits : (v : Option ℤ) → ResultIs (g.results o.frame.task) v → (fo : Option Frame) → StateFits g (ended_by (parts_given (behind fo) k) k (ending.Value v))
+  pub value_fits : (v : Option ℤ) → ResultIs (g.results o.frame.task) v → (fo : Option Frame) → StateFits g log (ended_by (parts_given (behind fo) k) k (ending.Value v))
   value_fits v r fo = closing_fits (ending.Value v) (λ y e. of y e) (record (left fo) { parts = []; activity = activity.Closing (ending.Value v) }) refl
       (ended_by (parts_given (behind fo) k) k (ending.Value v)).operations
       (row_again s (parts_given (behind fo) k) k (record (left fo) { parts = [] }) run.within (given_rows fo) (λ q. record q { parts = []; activity = activity.Closing (ending.Value v) }))
@@ -116,18 +117,22 @@ module _ (g : Program) (s : State) (k : ℕ) (ps : List Part) (run : HasRun g s 
 
   module _ (f : Frame) (like : IsLike o f) where
     -- in a frame like the one that it had, with its children
-    pub goes_on : (u : State) → Stays g s u → (w : Wait) → MayGoOn g run.going.world run.going.task o.frame.task w (record { frame = f; parts = ps }) → Going g u (record (left (Some f)) { wait = w })
+    pub goes_on : (u : State) → Stays g log log s u → (w : Wait) → MayGoOn g run.going.world run.going.task o.frame.task w (record { frame = f; parts = ps }) → Going g log u k (record (left (Some f)) { wait = w })
     goes_on u stays w met =
         let needs = needs_stay s.tree u.tree stays.nodes o.frame.needs.items run.going.nodes in record {
           world = run.going.world;
           task = run.going.task;
           there = ap (slice_get g.code.tasks) like.1 ∙ run.going.there;
-          roots = known_stay g s u stays run.going.world run.going.roots;
+          call = run.going.call;
+          issued = run.going.issued;
+          named = like.1 ∙ run.going.named;
+          args = run.going.args;
+          roots = known_stay g log log s u stays run.going.world run.going.roots;
           nodes = subst (λ (n : Needs). Each (λ (m : Need). m.node.0 < length u.tree.nodes) n.items) (sym like.0) needs.0;
           required = ap (λ (n : Needs). requirements_of u.tree n.items) like.0 ∙ needs.1 ∙ run.going.required;
           once = run.once;
           count = run.going.count;
-          results = results_stay g s u stays o.children run.going.world.children run.going.world.results run.going.results;
+          results = results_stay g log log s u stays o.children run.going.world.children run.going.world.results run.going.results;
           waits = subst (λ n. MayGoOn g run.going.world run.going.task n w (record { frame = f; parts = ps })) (sym like.1) met;
           does = tt;
         }
@@ -137,10 +142,10 @@ module _ (g : Program) (s : State) (k : ℕ) (ps : List Part) (run : HasRun g s 
 
     -- it waits again
     pub waits_fit : (w : Wait) → MayGoOn g run.going.world run.going.task o.frame.task w (record { frame = f; parts = ps }) → (v : Waits) →
-        StateFits g (record (with_operation (behind (Some f)) k (record (operation_at (behind (Some f)) k) { wait = w })) { waits = v })
+        StateFits g log (record (with_operation (behind (Some f)) k (record (operation_at (behind (Some f)) k) { wait = w })) { waits = v })
     waits_fit w met v =
         let u = record (with_operation (behind (Some f)) k (record (operation_at (behind (Some f)) k) { wait = w })) { waits = v } in
         let q = record (left (Some f)) { wait = w } in
         let rows = row_again s (behind (Some f)) k (left (Some f)) run.within refl (λ (z : Operation). record z { wait = w }) in
-        let stays = one_stays g s u k q run.within rows (nodes_same s.tree) (roots_same s.roots) (going_gives q refl tt) in
-        one_fits g s u k q run.within rows (nodes_same s.tree) (roots_same s.roots) (going_gives q refl tt) run.fits run.fits.counted run.fits.map (goes_on u stays w met)
+        let stays = one_stays g log s u k q run.within rows (nodes_same s.tree) (roots_same s.roots) (going_gives q refl tt) in
+        one_fits g log s u k q run.within rows (nodes_same s.tree) (roots_same s.roots) (going_gives q refl tt) run.fits run.fits.counted run.fits.map (goes_on u stays w met)

@@ -21,3 +21,4 @@ pub mod Issued
 pub mod Unbroken
 pub mod Whole
 pub mod Journals
+pub mod Results

@@ -15,6 +15,7 @@ use Rattle.region_tree.specs.declared.tree.RootId.{RootId}
 use Rattle.logical_map.specs.Maps.{opened}
 use Rattle.dependence_graph.specs.declared.stage.Waiting.TheVariants as graph
 use Rattle.machine_terms.specs.declared.frame.Frame.{Frame}
+use Rattle.machine_terms.specs.declared.outcome.CallOut.{CallOut}
 use Rattle.machine_terms.specs.declared.outcome.Made.TheVariants as made
 use Rattle.machine_terms.specs.declared.value.PartitionValue.{PartitionValue}
 use Rattle.machine_terms.specs.declared.value.RegionValue.{RegionValue}
@@ -34,8 +35,8 @@ use Rattle.fit_rules.specs.Fits.{a_claim, AreClaims, claims, Fits, no_claims, Pr
 use Rattle.fit_rules.specs.Ends.{IsMadeOf, rooted, with_root, with_value}
 use Rattle.fit_laws.proofs.Rooting.{claims_both, claims_rooted}
 use Rattle.fit_runs.proofs.Rooted.{root_required}
-use Rattle.fit_boards.specs.Fitting.{Gives, Going, MapFits, space_at, StateFits}
-use Rattle.fit_boards.proofs.Columns.{extents_stay, new_root_there, new_space, opened_fits}
+use Rattle.fit_boards.specs.Fitting.{Gives, Going, IsRootOf, MapFits, points_at, space_at, StateFits}
+use Rattle.fit_boards.proofs.Columns.{extents_stay, new_points, new_root_there, new_space, opened_fits}
 use Rattle.fit_boards.proofs.Given.{behind_of, ends_fit, goes_on, HasRun, IsLike, left_of, row_again}
 use Rattle.fit_boards.proofs.Nodes.{each_both, partition_stays, root_needs_there, root_stays}
 use Rattle.fit_boards.proofs.Rows.{IsOpen, one_fits, one_stays, open_gives}
@@ -71,7 +72,7 @@ partitions_are_made : (r : RegionValue) (p : ℕ) (sets : List (List ℕ)) (flag
     IsMadeOf r.root.0 flag sets (record { root = r.root; disjoint = flag; children = children_from r.root p 0 sets })
 partitions_are_made r p sets flag = record { of_root = refl; flagged = refl; made = points_kept r.root p 0 sets; roots = roots_kept r.root p 0 sets }
 
-module _ (g : Program) (s : State) (k : ℕ) (ps : List Part) (run : HasRun g s k ps) (said : List Said) (f : Frame) (like : IsLike (operation_at s k) f) where
+module _ (g : Program) (log : List CallOut) (s : State) (k : ℕ) (ps : List Part) (run : HasRun g log s k ps) (said : List Said) (f : Frame) (like : IsLike (operation_at s k) f) where
   abbrev o : Operation
   o = operation_at s k
 
@@ -119,22 +120,24 @@ module _ (g : Program) (s : State) (k : ℕ) (ps : List Part) (run : HasRun g s 
     rows : u.operations ≡ set s.operations k q
     rows = row_again s made_now k (record stopped { frame = framed }) run.within first_rows (λ z. record z { wait = wait.Nothing })
 
-    stays : Stays g s u
-    stays = one_stays g s u k q run.within rows (root_stays s.tree (points size)) (extents_stay g s.roots extent) (gives_on q refl tt)
+    stays : Stays g log log s u
+    stays = one_stays g log s u k q run.within rows (root_stays s.tree (points size)) (extents_stay g s.roots extent) (gives_on q refl tt)
 
     fresh : run.going.world.there root.0 ≡ false
     fresh = ⊎_elim (λ e. let l = (run.going.roots root.0 e).0 in absurd (omega (arith, l, run.fits.counted))) (λ e. e) (cases_Bool (run.going.world.there root.0))
 
-    known : (r : ℕ) → y.there r ≡ true → (r < length u.roots) × (y.spaces r ≡ space_at u.roots r)
+    known : (r : ℕ) → y.there r ≡ true → IsRootOf u.roots y r
     known r e = of (r == root.0) refl e
       where
-        of : (b : Bool) → r == root.0 ≡ b → b || run.going.world.there r ≡ true → (r < length u.roots) × (cond b sp (run.going.world.spaces r) ≡ space_at u.roots r)
+        of : (b : Bool) → r == root.0 ≡ b → b || run.going.world.there r ≡ true →
+            (r < length u.roots) × (cond b sp (run.going.world.spaces r) ≡ space_at u.roots r) × (cond b (points size) (run.going.world.points r) ≡ points_at u.roots r)
         of true i a =
             let same : r ≡ length s.roots = eqb-true r root.0 i ∙ run.fits.counted in (
               subst (λ n. n < length u.roots) (sym same) (new_root_there g s.roots extent),
               sym (ap (space_at u.roots) same ∙ new_space g s.roots extent),
+              sym (ap (points_at u.roots) same ∙ new_points g s.roots extent),
             )
-        of false i a = known_stay g s u stays run.going.world run.going.roots r a
+        of false i a = known_stay g log log s u stays run.going.world run.going.roots r a
 
     needed : Each (λ (n : Need). n.node.0 < length u.tree.nodes) framed.needs.items × (requirements_of u.tree framed.needs.items ≡ claims g y run.going.task)
     needed =
@@ -150,24 +153,28 @@ module _ (g : Program) (s : State) (k : ℕ) (ps : List Part) (run : HasRun g s 
               ∙ sym (claims_rooted run.going.world number root.0 sp size fresh g run.going.task run.knows.own_there),
         )
 
-    root_going : Going g u q
+    root_going : Going g log u k q
     root_going = record {
       world = y;
       task = run.going.task;
       there = ap (slice_get g.code.tasks) like.1 ∙ run.going.there;
+      call = run.going.call;
+      issued = run.going.issued;
+      named = like.1 ∙ run.going.named;
+      args = run.going.args;
       roots = known;
       nodes = needed.0;
       required = needed.1;
       once = run.once;
       count = run.going.count;
-      results = results_stay g s u stays o.children run.going.world.children run.going.world.results run.going.results;
+      results = results_stay g log log s u stays o.children run.going.world.children run.going.world.results run.going.results;
       waits = subst (λ n. Fits g y run.going.task n (record { frame = framed; parts = ps })) (sym like.1)
           (met (region_at root node (points size)) (needs_of_root root node (fields_needed g.code size sp)) fresh refl (roots_are_claimed g root node sp size));
       does = tt;
     }
 
-    pub root_fits : StateFits g u
-    root_fits = one_fits g s u k q run.within rows (root_stays s.tree (points size)) (extents_stay g s.roots extent) (gives_on q refl tt) run.fits counted
+    pub root_fits : StateFits g log u
+    root_fits = one_fits g log s u k q run.within rows (root_stays s.tree (points size)) (extents_stay g s.roots extent) (gives_on q refl tt) run.fits counted
         (subst (λ n. MapFits g (s.roots ++ extent ∷ []) (opened n (points size) (kinds_of g.code sp) s.map)) (sym run.fits.counted) (opened_fits g s.roots extent (points size) s.map run.fits.map))
         root_going
       where
@@ -196,15 +203,15 @@ module _ (g : Program) (s : State) (k : ℕ) (ps : List Part) (run : HasRun g s 
     still_rows : v.operations ≡ set s.operations k z
     still_rows = row_again s parted k (record stopped { frame = pushed (value.Partition parts) f }) run.within parted_rows (λ n. record n { wait = wait.Nothing })
 
-    still : Stays g s v
-    still = one_stays g s v k z run.within still_rows (partition_stays s.tree r.node.0 sets flag) (roots_same s.roots) (gives_on z refl tt)
+    still : Stays g log log s v
+    still = one_stays g log s v k z run.within still_rows (partition_stays s.tree r.node.0 sets flag) (roots_same s.roots) (gives_on z refl tt)
 
-    partition_going : Going g v z
-    partition_going = goes_on g s k ps run said (pushed (value.Partition parts) f) like v still wait.Nothing (met parts (partitions_are_made r (next_node s) sets flag))
+    partition_going : Going g log v k z
+    partition_going = goes_on g log s k ps run said (pushed (value.Partition parts) f) like v still wait.Nothing (met parts (partitions_are_made r (next_node s) sets flag))
 
-    pub partition_fits : StateFits g (making g.code (made.Partition r sets flag) now k)
+    pub partition_fits : StateFits g log (making g.code (made.Partition r sets flag) now k)
     partition_fits = of (is_here s.tree r && is_sound (set_at s.tree r.node.0) sets flag)
       where
-        of : (b : Bool) → StateFits g (cond b v (ended_by now k ending.Broken))
-        of true = one_fits g s v k z run.within still_rows (partition_stays s.tree r.node.0 sets flag) (roots_same s.roots) (gives_on z refl tt) run.fits run.fits.counted run.fits.map partition_going
-        of false = ends_fit g s k ps run said ending.Broken (λ y e. absurd cc) (Some f)
+        of : (b : Bool) → StateFits g log (cond b v (ended_by now k ending.Broken))
+        of true = one_fits g log s v k z run.within still_rows (partition_stays s.tree r.node.0 sets flag) (roots_same s.roots) (gives_on z refl tt) run.fits run.fits.counted run.fits.map partition_going
+        of false = ends_fit g log s k ps run said ending.Broken (λ y e. absurd cc) (Some f)

@@ -8,6 +8,7 @@ use Rattle.task_code.specs.declared.code.Code.{Code}
 use Rattle.task_code.specs.declared.code.TaskCode.{TaskCode}
 use Rattle.machine_terms.specs.declared.frame.Before.{Before}
 use Rattle.machine_terms.specs.declared.frame.Frame.{Frame}
+use Rattle.machine_terms.specs.declared.outcome.CallOut.{CallOut}
 use Rattle.machine_terms.specs.Parts.{is_needed, part_of}
 use Rattle.board_terms.specs.declared.claim.Claim.{Claim}
 use Rattle.board_terms.specs.declared.operation.Activity.{Activity}
@@ -36,9 +37,9 @@ value_fits g sh k (activity.Closing (ending.Value (Some z))) none h = h
 value_fits g sh k (activity.Closing (ending.Fault f)) none h = none
 value_fits g sh k (activity.Closing ending.Broken) none h = none
 
-child_fits : (g : Program) (s : State) (sh : Shape) (c : Option OpNumber) → ChildGives g s sh c → NumberIs sh (value_at s c)
-child_fits g s sh None h = absurd h
-child_fits g s sh (Some c) h = value_fits g sh (operation_at s c.0).frame.task (operation_at s c.0).activity h.1.0 h.1.1
+child_fits : (g : Program) (log : List CallOut) (s : State) (sh : Shape) (c : Option OpNumber) → ChildGives g log s sh c → NumberIs sh (value_at s c)
+child_fits g log s sh None h = absurd h
+child_fits g log s sh (Some c) (low, gives, of_call) = value_fits g sh (operation_at s c.0).frame.task (operation_at s c.0).activity gives.0 gives.1
 
 -- ---- what is wanted
 
@@ -47,7 +48,7 @@ pub wanted_there : (g : Program) (x : World) (t : TaskCode) (k : ℕ) (f : Frame
     Fits g x t k (record { frame = f; parts = parts }) → is_needed f.needs.items root field ≡ true → x.there root ≡ true
 wanted_there g x t k f parts root field h e = needed_there g x t h.beside.roots f.needs.items h.beside.needs root field e
 
-module _ (g : Program) (code : Code) (same : code ≡ g.code) (s : State) (o : Operation) (a : Going g s o) where
+module _ (g : Program) (log : List CallOut) (code : Code) (same : code ≡ g.code) (s : State) (n : ℕ) (o : Operation) (a : Going g log s n o) where
   abbrev x : World
   x = a.world
 
@@ -67,7 +68,7 @@ module _ (g : Program) (code : Code) (same : code ≡ g.code) (s : State) (o : O
   machine_fits wait.Nothing (Some q) h f = absurd f
   machine_fits (wait.Child n) None (fit, low, met) f =
       subst (λ ps. Fits g x t k (record { frame = frame_behind s o (wait.Child n); parts = ps })) (sym (append-nil o.parts))
-      (met (value_at s (slice_get o.children n)) (child_fits g s (x.results n) (slice_get o.children n) (a.results n low)))
+      (met (value_at s (slice_get o.children n)) (child_fits g log s (x.results n) (slice_get o.children n) (a.results n low)))
   machine_fits (wait.Child n) (Some q) h f = absurd f
   machine_fits (wait.Part root field) None h f = absurd f
   machine_fits (wait.Part root field) (Some q) (fit, needed, none, met) f =
@@ -91,10 +92,17 @@ module _ (g : Program) (code : Code) (same : code ≡ g.code) (s : State) (o : O
   needs_same (wait.Part root field) = refl
   needs_same (wait.Child n) = refl
 
+  own_same : (w : Wait) → (frame_behind s o w).own ≡ o.frame.own
+  own_same wait.Beginning = refl
+  own_same wait.Nothing = refl
+  own_same (wait.Part root field) = refl
+  own_same (wait.Child n) = refl
+
   pub out_fits : (c : Claim) (fill : Option Fill) → FillsFor g x t o.wait fill → (b : Before) → b ≡ before_of code s o fill →
       OutFits g x t (record o { activity = activity.Out c b }) b
   out_fits c fill f b e = subst (λ (q : Before). OutFits g x t (record o { activity = activity.Out c q }) q) (sym e) (record {
     fits = record { code = same; machine = machine_fits o.wait fill a.waits f };
     needs = needs_same o.wait;
+    own = own_same o.wait;
     once = parts_once o.wait fill a.waits f;
   })

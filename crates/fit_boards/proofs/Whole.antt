@@ -120,7 +120,7 @@ each_of : {A : Type 0} (P Q : A → Type 0) → ((a : A) → P a → Q a) → (x
 each_of P Q f [] h = tt
 each_of P Q f (x ∷ xs) h = (f x h.0, each_of P Q f xs h.1)
 
-module _ (g : Program) (job : Job) (is : IsSoundJob g job) (s : State) (b : Board (regent_ground (spaces_of job.code))) (h : ShowsBoard job s b) (fits : StateFits g s) (whole : AreWhole s.operations) (k : ℕ) where
+module _ (g : Program) (job : Job) (is : IsSoundJob g job) (log : List CallOut) (s : State) (b : Board (regent_ground (spaces_of job.code))) (h : ShowsBoard job s b) (fits : StateFits g log s) (whole : AreWhole s.operations) (k : ℕ) where
   known : IsKnown s
   known = shown_is_known job s b h
 
@@ -135,7 +135,7 @@ module _ (g : Program) (job : Job) (is : IsSoundJob g job) (s : State) (b : Boar
     back = parts_given (behind_of s k ps said (segment before).frame) k
 
     inside : k < length s.operations
-    inside = within g job is s known fits k c before act
+    inside = within g job is log s known fits k c before act
 
     back_row : operation_at back k ≡ record (left_of (operation_at s k) ps said (segment before).frame) { parts = [] }
     back_row =
@@ -156,9 +156,9 @@ module _ (g : Program) (job : Job) (is : IsSoundJob g job) (s : State) (b : Boar
     all_calls : (f : Frame) → (segment before).frame ≡ Some f → (cs : List CallOut) → (segment before).ends ≡ yield.Calls cs →
         length (frames_before g.code job.turns back (operation_at back k) cs) ≡ length cs
     all_calls f goes cs e =
-        let start : Going g s (operation_at s k) = going g job is s known fits k c before act in
-        let o = out g job is s known fits k c before act in
-        let like = is_like g job is s known fits k c before act f goes in
+        let start : Going g log s k (operation_at s k) = going g job is log s known fits k c before act in
+        let o = out g job is log s known fits k c before act in
+        let like = is_like g job is log s known fits k c before act f goes in
         let frame : (operation_at back k).frame ≡ f = ap (λ (q : Operation). q.frame) back_row ∙ ap (frame_left (operation_at s k).frame) goes in
         let required : requirements_of back.tree (operation_at back k).frame.needs.items ≡ claims g start.world start.task =
         ap (λ (q : Frame). requirements_of s.tree q.needs.items) frame ∙ ap (λ (q : Needs). requirements_of s.tree q.items) like.0 ∙ start.required in
@@ -173,8 +173,8 @@ module _ (g : Program) (job : Job) (is : IsSoundJob g job) (s : State) (b : Boar
     all_parted : (r : RegionValue) (sets : List (List ℕ)) (flag : Bool) → (segment before).ends ≡ yield.Make (made.Partition r sets flag) →
         is_here s.tree r && is_sound (set_at s.tree r.node.0) sets flag ≡ true
     all_parted r sets flag e =
-        let start : Going g s (operation_at s k) = going g job is s known fits k c before act in
-        let o = out g job is s known fits k c before act in
+        let start : Going g log s k (operation_at s k) = going g job is log s known fits k c before act in
+        let o = out g job is log s known fits k c before act in
         let placed = placed_is_here s.tree r (subst (YieldHas (HasPlaces s.tree)) e (out_places job s b h k c before act).yields) in
         and_from (is_here s.tree r) (is_sound (set_at s.tree r.node.0) sets flag) placed.0
         (ap (λ xs. is_sound xs sets flag) placed.1
@@ -182,20 +182,20 @@ module _ (g : Program) (job : Job) (is : IsSoundJob g job) (s : State) (b : Boar
 
     given_whole : AreWhole (given_after g.code job.turns s k (segment before)).operations
     given_whole =
-        let start : Going g s (operation_at s k) = going g job is s known fits k c before act in
-        let o = out g job is s known fits k c before act in
+        let start : Going g log s k (operation_at s k) = going g job is log s known fits k c before act in
+        let o = out g job is log s known fits k c before act in
         followed_whole (yielded g.code job.turns (behind_of s k ps said (segment before).frame) k (segment before).ends) k
         (yields_whole g.code job.turns s k ps said whole (segment before).frame (segment before).ends
         (no_segment_breaks g start.world start.task (operation_at s k).frame.task before (is.sound.tasks (operation_at s k).frame.task start.task start.there) o.fits)
-        (λ cs e. of_frame cs e (segment before).frame refl (after g job is s known fits k c before act).1)
+        (λ cs e. of_frame cs e (segment before).frame refl (after g job is log s known fits k c before act).1)
         all_parted)
       where
         of_frame : (cs : List CallOut) → (segment before).ends ≡ yield.Calls cs → (fo : Option Frame) → (segment before).frame ≡ fo →
-            IsLeft g (going g job is s known fits k c before act).world (going g job is s known fits k c before act).task (operation_at s k).frame.task (segment before).ends (segment before).frame (segment before).parts →
+            IsLeft g (going g job is log s known fits k c before act).world (going g job is log s known fits k c before act).task (operation_at s k).frame.task (segment before).ends (segment before).frame (segment before).parts →
             length (frames_before g.code job.turns back (operation_at back k) cs) ≡ length cs
         of_frame cs e (Some f) goes left = all_calls f goes cs e
-        of_frame cs e None goes left = absurd (subst (λ y. IsLeft g (going g job is s known fits k c before act).world (going g job is s known fits k c before act).task (operation_at s k).frame.task y None (segment before).parts) e
-            (subst (λ q. IsLeft g (going g job is s known fits k c before act).world (going g job is s known fits k c before act).task (operation_at s k).frame.task (segment before).ends q (segment before).parts) goes left))
+        of_frame cs e None goes left = absurd (subst (λ y. IsLeft g (going g job is log s known fits k c before act).world (going g job is log s known fits k c before act).task (operation_at s k).frame.task y None (segment before).parts) e
+            (subst (λ q. IsLeft g (going g job is log s known fits k c before act).world (going g job is log s known fits k c before act).task (operation_at s k).frame.task (segment before).ends q (segment before).parts) goes left))
 
   -- ---- each step
 

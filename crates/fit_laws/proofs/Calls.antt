@@ -17,10 +17,10 @@ use Rattle.machine_terms.specs.declared.value.Value.TheVariants as value
 use Rattle.machine_terms.specs.Machine.{Machine, Stepped, stops, when, with_turns, faults, broken}
 use Rattle.machine_terms.specs.Pointers.{region_in}
 use Rattle.machine_terms.specs.Calls.{take_values, yield_call, calling, call_task, call}
-use Rattle.machine_terms.specs.Opening.{with_points, need_on, needs_on, opening}
+use Rattle.machine_terms.specs.Opening.{with_points, need_on, needs_on}
 use Rattle.fit_rules.specs.Shapes.{Shape, awaited, NumberIs, World, IsPartition, IsRegion, Is, is_anything, is_number, is_space, is_region, is_partition, is_cut, is_pending, Are, are_none, are_more, Origin, unknown, Each, ComesFrom, argument, own_root, own_as, part, child_at, held_at}
-use Rattle.fit_rules.specs.Marks.{Suits, stacked}
-use Rattle.fit_rules.specs.Fits.{Program, requires, claim_on, declared_claims, root_claims, own_claims, claims, AreClaims, no_claims, a_claim, PartsFit, Fits}
+use Rattle.fit_rules.specs.Marks.{Into, stacked}
+use Rattle.fit_rules.specs.Fits.{Begins, Program, requires, claim_on, declared_claims, root_claims, own_claims, claims, AreClaims, no_claims, a_claim, PartsFit, Fits}
 use Rattle.fit_rules.specs.Sound.{Takes, Opens, To, Settled}
 use Rattle.fit_rules.specs.Ends.{grown, called, opening_machine, without_parts, Safe, safe_stops}
 use Rattle.fit_laws.proofs.Held.{over}
@@ -107,11 +107,10 @@ no_parts g x t root f q e = absurd (none-some q e)
 
 pub opening_fits : (g : Program) (x : World) (k : ℕ) (t : TaskCode) (vs : List Value) (turns depth : ℕ) → turns < 2 ^ 64 →
     0 < length t.body → ((i : ℕ) (r : RegionValue) → region_in (slice_get vs i) ≡ Some r → x.there r.root.0 ≡ true) →
-    Suits (called x vs) t.params (g.marks k 0) (opening 0 0 k t vs).slots [] →
-    Fits g (called x vs) t k (opening_machine turns depth k t vs)
-opening_fits g x k t vs turns depth h l there s = record {
+    Into t.params (g.begins k) (g.marks k 0) → Begins g x t k vs → Fits g (called x vs) t k (opening_machine turns depth k t vs)
+opening_fits g x k t vs turns depth h l there first s = record {
   inside = l;
-  suits = s;
+  suits = first (called x vs) _ [] s.1;
   beside = record {
     task = refl;
     needs = claims_open t.needs vs;
@@ -123,9 +122,10 @@ opening_fits g x k t vs turns depth h l there s = record {
       own_there = λ r h. absurd h;
       args_there = there;
       last_own = λ i r e. absurd (none-some r e);
-      one_number = λ i j r e f. absurd (none-some r e);
-      args_other = λ i j r e f. none-some r.root.0 f;
+      one_number = λ i j r p e f h. absurd (none-some r e);
+      args_other = λ i j p r e h f. none-some r.root.0 f;
     };
+    begins = s;
   };
 }
 
@@ -166,6 +166,7 @@ module _ (g : Program) (x : World) (t : TaskCode) (k : ℕ) (m : Machine) (fit :
         one_number = fit.beside.roots.one_number;
         args_other = fit.beside.roots.args_other;
       };
+      begins = fit.beside.begins;
     };
   }
 
@@ -175,7 +176,7 @@ module _ (g : Program) (x : World) (t : TaskCode) (k : ℕ) (m : Machine) (fit :
       To g t k (stacked (g.marks k m.frame.pc) (awaited (g.results task) ∷ rest)) (suc m.frame.pc) →
       Each Settled args → Are (over g x k m) args ws → Are (over g x k m) rest st → Safe g x t k (yield_call task ws st (with_turns p m))
   issued task line p callee args rest ws st short there some o e to settled aw ar =
-      let opens = o x m.frame.slots m.frame.stack ws fit.beside.roots fit.suits aw in
+      let opens = o.1 x m.frame.slots m.frame.stack ws fit.beside.roots fit.suits aw in
       subst (λ b. Safe g x t k (when b (when (nat_lt (suc m.frame.pc) (2 ^ 32)) (stops y next) (broken next)) (broken (with_turns p m))))
       (sym (lt-ltb (suc m.frame.children) (2 ^ 64) (omega (arith, e, fit.beside.calls))))
       (subst (λ b. Safe g x t k (when b (stops y next) (broken next)))
@@ -187,7 +188,7 @@ module _ (g : Program) (x : World) (t : TaskCode) (k : ℕ) (m : Machine) (fit :
             record {
               callee = callee;
               there = there;
-              opens = λ turns depth h. opening_fits g x task callee ws turns depth h some (all_there (over g x k m) args ws settled aw) opens.0;
+              opens = λ turns depth h. opening_fits g x task callee ws turns depth h some (all_there (over g x k m) args ws settled aw) o.0 opens.0;
               needed = opens.1;
               within = opens.2;
             },

@@ -14,6 +14,7 @@ pub mod Fills
 pub mod Effects
 pub mod Calls
 pub mod Making
+pub mod Begun
 pub mod Rooting
 pub mod Columns
 pub mod Settling

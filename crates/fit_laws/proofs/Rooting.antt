@@ -27,6 +27,7 @@ use Rattle.fit_rules.specs.Fits.{Program, count_at, kind_at, shape_at, root_clai
 use Rattle.fit_rules.specs.Sound.{To, IsOther}
 use Rattle.fit_rules.specs.Ends.{rooted, with_root, Safe, safe_stops}
 use Rattle.fit_rules.proofs.Points.{counted_points}
+use Rattle.fit_laws.proofs.Begun.{begins_rooted, old_root, same_points, same_space, still_there}
 use Rattle.fit_laws.proofs.Held.{over}
 use Rattle.fit_laws.proofs.Cover.{in_front, in_back}
 use Rattle.std.proofs.lemmas.Option.{same_Some}
@@ -34,28 +35,12 @@ use Rattle.std.proofs.lemmas.Option.{same_Some}
 -- ---- a world with one more root
 
 module _ (x : World) (i root sp n : ℕ) (fresh : x.there root ≡ false) where
-  old_root : (r : ℕ) → x.there r ≡ true → r == root ≡ false
-  old_root r h = ne_eqb r root (λ e. false≢true (sym fresh ∙ ap x.there (sym e) ∙ h))
-
-  right_true : (b : Bool) → b || true ≡ true
-  right_true true = refl
-  right_true false = refl
-
-  pub still_there : (r : ℕ) → x.there r ≡ true → (rooted x i root sp n).there r ≡ true
-  still_there r h = ap (λ b. (r == root) || b) h ∙ right_true (r == root)
-
-  same_points : (r : ℕ) → x.there r ≡ true → (rooted x i root sp n).points r ≡ x.points r
-  same_points r h = ap (λ b. cond b (points n) (x.points r)) (old_root r h)
-
-  pub same_space : (r : ℕ) → x.there r ≡ true → (rooted x i root sp n).spaces r ≡ x.spaces r
-  same_space r h = ap (λ b. cond b sp (x.spaces r)) (old_root r h)
-
   -- what was made last under another number
   same_last : (j : ℕ) → j ≢ i → (rooted x i root sp n).last j ≡ x.last j
   same_last j h = ap (λ b. cond b (Some root) (x.last j)) (ne_eqb j i h)
 
   whole_rooted : (r : RegionValue) → x.there r.root.0 ≡ true → IsWhole x r → IsWhole (rooted x i root sp n) r
-  whole_rooted r there w = (in_front x.own (root ∷ []) r.root.0 w.0, w.1 ∙ sym (same_points r.root.0 there))
+  whole_rooted r there w = (in_front x.own (root ∷ []) r.root.0 w.0, w.1 ∙ sym (same_points x i root sp n fresh r.root.0 there))
 
   origin_rooted : (s : Option ℕ) (o : Origin) (r : RegionValue) → IsOther i (region s o) → x.there r.root.0 ≡ true → ComesFrom x o r →
       ComesFrom (rooted x i root sp n) o r
@@ -70,9 +55,9 @@ module _ (x : World) (i root sp n : ℕ) (fresh : x.there root ≡ false) where
   region_rooted : (s : Option ℕ) (o : Origin) (r : RegionValue) → IsOther i (region s o) → IsRegion x s o r →
       IsRegion (rooted x i root sp n) s o r
   region_rooted s o r h q = record {
-    there = still_there r.root.0 q.there;
-    space = subst (OfSpace s) (sym (same_space r.root.0 q.there)) q.space;
-    points = λ p e. subst (λ xs. has xs p ≡ true) (sym (same_points r.root.0 q.there)) (q.points p e);
+    there = still_there x i root sp n fresh r.root.0 q.there;
+    space = subst (OfSpace s) (sym (same_space x i root sp n fresh r.root.0 q.there)) q.space;
+    points = λ p e. subst (λ xs. has xs p ≡ true) (sym (same_points x i root sp n fresh r.root.0 q.there)) (q.points p e);
     set = q.set;
     origin = origin_rooted s o r h q.there q.origin;
   }
@@ -81,8 +66,8 @@ module _ (x : World) (i root sp n : ℕ) (fresh : x.there root ≡ false) where
   partition_rooted s d p q = record {
     flag = q.flag;
     apart = q.apart;
-    there = still_there p.root.0 q.there;
-    space = subst (OfSpace s) (sym (same_space p.root.0 q.there)) q.space;
+    there = still_there x i root sp n fresh p.root.0 q.there;
+    space = subst (OfSpace s) (sym (same_space x i root sp n fresh p.root.0 q.there)) q.space;
     count = q.count;
     regions = λ r l. ((q.regions r l).0, region_rooted s unknown r tt (q.regions r l).1);
   }
@@ -124,17 +109,21 @@ module _ (x : World) (i root sp n : ℕ) (fresh : x.there root ≡ false) where
   own_new_or_old (y ∷ xs) q (inl e) = inl (inl e)
   own_new_or_old (y ∷ xs) q (inr h) = ⊎_elim (λ l. inl (inr l)) (λ e. inr e) (own_new_or_old xs q h)
 
+  -- a root that was there has the points that it had
+  old_point : (r p : ℕ) → x.there r ≡ true → has ((rooted x i root sp n).points r) p ≡ true → has (x.points r) p ≡ true
+  old_point r p h q = subst (λ ps. has ps p ≡ true) (same_points x i root sp n fresh r h) q
+
   roots_rooted : KnowsRoots x → KnowsRoots (rooted x i root sp n)
   roots_rooted k = record {
-    own_there = λ r h. ⊎_elim (λ l. still_there r (k.own_there r l))
+    own_there = λ r h. ⊎_elim (λ l. still_there x i root sp n fresh r (k.own_there r l))
         (λ e. subst (λ q. (rooted x i root sp n).there q ≡ true) e (ap (λ b. b || x.there root) (eq-eqb root root refl))) (own_new_or_old x.own r h);
-    args_there = λ j r e. still_there r.root.0 (k.args_there j r e);
+    args_there = λ j r e. still_there x i root sp n fresh r.root.0 (k.args_there j r e);
     last_own = λ j r e. ⊎_elim (λ p. in_back x.own (root ∷ []) r (inl p.1)) (λ p. in_front x.own (root ∷ []) r (k.last_own j r p.1)) (last_is j r e);
-    one_number = λ a b r e f. ⊎_elim
-        (λ p. ⊎_elim (λ q. p.0 ∙ sym q.0) (λ q. absurd (not_new r (k.own_there r (k.last_own b r q.1)) p.1)) (last_is b r f))
-        (λ p. ⊎_elim (λ q. absurd (not_new r (k.own_there r (k.last_own a r p.1)) q.1)) (λ q. k.one_number a b r p.1 q.1) (last_is b r f))
+    one_number = λ a b r q e f h. ⊎_elim
+        (λ p. ⊎_elim (λ d. p.0 ∙ sym d.0) (λ d. absurd (not_new r (k.own_there r (k.last_own b r d.1)) p.1)) (last_is b r f))
+        (λ p. ⊎_elim (λ d. absurd (not_new r (k.own_there r (k.last_own a r p.1)) d.1)) (λ d. k.one_number a b r q p.1 d.1 (old_point r q (k.own_there r (k.last_own a r p.1)) h)) (last_is b r f))
         (last_is a r e);
-    args_other = λ a b r e f. ⊎_elim (λ p. not_new r.root.0 (k.args_there a r e) p.1) (λ p. k.args_other a b r e p.1) (last_is b r.root.0 f);
+    args_other = λ a b q r e h f. ⊎_elim (λ p. not_new r.root.0 (k.args_there a r e) p.1) (λ p. k.args_other a b q r e h p.1) (last_is b r.root.0 f);
   }
 
   -- ---- claims
@@ -152,8 +141,8 @@ module _ (x : World) (i root sp n : ℕ) (fresh : x.there root ≡ false) where
       ap (λ l. root_claims g r ((rooted x i root sp n).spaces r) ((rooted x i root sp n).points r) ++ l)
       (own_old g rs (λ q l. h q (inr l)))
       ∙ ap (λ xs. root_claims g r ((rooted x i root sp n).spaces r) xs ++ own_claims g x rs)
-      (same_points r (h r (inl refl)))
-      ∙ ap (λ s. root_claims g r s (x.points r) ++ own_claims g x rs) (same_space r (h r (inl refl)))
+      (same_points x i root sp n fresh r (h r (inl refl)))
+      ∙ ap (λ s. root_claims g r s (x.points r) ++ own_claims g x rs) (same_space x i root sp n fresh r (h r (inl refl)))
 
   own_new : (g : Program) → own_claims g (rooted x i root sp n) (root ∷ []) ≡ root_claims g root sp (points n)
   own_new g = append-nil _
@@ -193,11 +182,11 @@ module _ (x : World) (i root sp n : ℕ) (fresh : x.there root ≡ false) where
       ((r : ℕ) → Among x.own r → x.there r ≡ true) → PartsFit g x t parts → PartsFit g (rooted x i root sp n) t parts
   parts_rooted g t parts h fits r f q e =
       let old = fits r f q e in
-      let space = same_space r old.there in
-      let other : root == r ≡ false = ne_eqb root r (λ w. eqb-false r root (old_root r old.there) (sym w)) in
+      let space = same_space x i root sp n fresh r old.there in
+      let other : root == r ≡ false = ne_eqb root r (λ w. eqb-false r root (old_root x i root sp n fresh r old.there) (sym w)) in
       let y = rooted x i root sp n in
       record {
-        there = still_there r old.there;
+        there = still_there x i root sp n fresh r old.there;
         kind = old.kind ∙ ap (λ s. kind_at g s f) (sym space);
         cells = λ p. subst (λ s. CellFits (kind_at g s f) (shape_at g s f) (cell_at q.pieces p) (mode_at (claims g y t) r f p)) (sym space)
             (subst (CellFits (kind_at g (x.spaces r) f) (shape_at g (x.spaces r) f) (cell_at q.pieces p))
@@ -254,6 +243,7 @@ module _ (g : Program) (x : World) (t : TaskCode) (k : ℕ) (m : Machine) (fit :
           calls = fit.beside.calls;
           own = numbers_both m.frame.own r.root ∙ ap (λ l. l ++ r.root.0 ∷ []) fit.beside.own;
           roots = roots_rooted x i r.root.0 sp n fresh fit.beside.roots;
+          begins = begins_rooted x i r.root.0 sp n fresh x.args g t k fit.beside.begins;
         };
       }
 

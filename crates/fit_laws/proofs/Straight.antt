@@ -43,6 +43,7 @@ module _ (g : Program) (x : World) (t : TaskCode) (k : ℕ) (m : Machine) (fit :
     calls = omega (arith, l, fit.beside.calls);
     own = fit.beside.own;
     roots = fit.beside.roots;
+    begins = fit.beside.begins;
   }
 
   beside_at : (pc : ℕ) (st : List Value) → Beside g x t k (at pc st m)

@@ -1,2 +1,4 @@
 pub mod Points
 pub mod Example
+pub mod Misfits
+pub mod Stacked

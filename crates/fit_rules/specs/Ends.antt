@@ -24,8 +24,9 @@ use Rattle.machine_terms.specs.Orders.{settled}
 use Rattle.machine_terms.specs.Parts.{is_needed, part_of}
 use Rattle.machine_terms.specs.Pointers.{region_in}
 use Rattle.machine_terms.specs.Regions.{sets_of}
-use Rattle.fit_rules.specs.Shapes.{Among, Each, Shape, anything, NumberIs, World}
+use Rattle.fit_rules.specs.Shapes.{Among, Each, Shape, NumberIs, World}
 use Rattle.fit_rules.specs.Fits.{Program, count_at, AreClaims, root_claims, declared_claims, claims, PartFits, PartsFit, Fits}
+pub use Rattle.fit_rules.specs.Fits.{called}
 
 -- the value of an end is of the task's result type
 abbrev pub ResultIs : Shape → Option ℤ → Type 0
@@ -52,10 +53,6 @@ grown x s = record x {
 abbrev pub grown_by : Program → World → List CallOut → World
 grown_by g x [] = x
 grown_by g x (c ∷ cs) = grown_by g (grown x (g.results c.task)) cs
-
--- what stands around a frame that opens with arguments
-abbrev pub called : World → List Value → World
-called x vs = record x { results = λ i. anything; children = 0; own = []; last = λ i. None; args = vs; held = [] }
 
 abbrev pub opening_machine : ℕ → ℕ → ℕ → TaskCode → List Value → Machine
 opening_machine turns depth k t vs = record { frame = opening turns depth k t vs; parts = [] }

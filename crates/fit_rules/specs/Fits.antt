@@ -19,19 +19,20 @@ use Rattle.machine_terms.specs.declared.value.RegionValue.{RegionValue}
 use Rattle.machine_terms.specs.declared.value.Value.{Value}
 use Rattle.machine_terms.specs.Contents.{kinds_of}
 use Rattle.machine_terms.specs.Machine.{Machine}
-use Rattle.machine_terms.specs.Opening.{with_points}
+use Rattle.machine_terms.specs.Opening.{opening, with_points}
 use Rattle.machine_terms.specs.Parts.{Cell, cell_at, part_of}
 use Rattle.machine_terms.specs.Pointers.{region_in}
 use Rattle.machine_terms.specs.Segments.{opened}
-use Rattle.fit_rules.specs.Shapes.{Among, Shape, integer, truth, index, pointer, NumberIs, World, KnowsRoots}
+use Rattle.fit_rules.specs.Shapes.{Among, anything, Shape, integer, truth, index, pointer, NumberIs, World, KnowsRoots}
 use Rattle.fit_rules.specs.Marks.{Mark, Suits}
 
--- Code, with how many regions the type of each pointer field names, the shape of what each task gives,
--- and the mark at each place of each task.
+-- Code, with how many regions the type of each pointer field names, the shape of what each task gives, what is known of the
+-- arguments with which a frame of each task begins, and the mark at each place of each task.
 pub record Program : Type 0 where
   pub code : Code
   pub positions : ℕ → ℕ → ℕ
   pub results : ℕ → Shape
+  pub begins : ℕ → Mark
   pub marks : ℕ → ℕ → Mark
 
 -- ---- fields
@@ -53,6 +54,16 @@ kind_at g sp f = get_or (kinds_of g.code sp) f kind.Truth
 
 abbrev pub shape_at : Program → ℕ → ℕ → Shape
 shape_at g sp f = kept_as (kind_at g sp f) (g.positions sp f)
+
+-- ---- arguments
+
+-- what stands around a frame that opens with arguments
+abbrev pub called : World → List Value → World
+called x vs = record x { results = λ i. anything; children = 0; own = []; last = λ i. None; args = vs; held = [] }
+
+-- a frame of a task may begin with these: they are as many as its parameters, and the slots in which it opens are as is known of them
+abbrev pub Begins : Program → World → TaskCode → ℕ → List Value → Type 0
+Begins g x t k vs = (length vs ≡ t.params) × Suits (called x vs) t.params (g.begins k) (opening 0 0 k t vs).slots []
 
 -- ---- what a task may touch
 
@@ -142,8 +153,8 @@ PartsFit g x t parts = (root f : ℕ) (q : Part) → part_of parts root f ≡ So
 -- ---- machines
 
 -- What fits beside slots and stack: the frame is of the task, its needs are those claims, the parts are
--- of them, and it knows its children, and the roots of its own and of its arguments. Each call takes a turn, so that
--- the count of children stays a number of 64 bits.
+-- of them, and it knows its children, and the roots of its own and of its arguments, with which it may begin. Each call takes a turn,
+-- so that the count of children stays a number of 64 bits.
 pub record Beside (g : Program) (x : World) (t : TaskCode) (k : ℕ) (m : Machine) : Type 0 where
   pub task : m.frame.task ≡ k
   pub needs : AreClaims m.frame.needs.items (claims g x t)
@@ -152,6 +163,7 @@ pub record Beside (g : Program) (x : World) (t : TaskCode) (k : ℕ) (m : Machin
   pub calls : m.frame.children + m.frame.turns < 2 ^ 64
   pub own : map (λ r. r.0) m.frame.own ≡ x.own
   pub roots : KnowsRoots x
+  pub begins : Begins g x t k x.args
 
 -- A machine at a place of a task's code fits beside a world: what stands in slots and on the stack
 -- suits the place's mark.

@@ -176,13 +176,13 @@ pub record IsRegion (x : World) (sp : Option ℕ) (o : Origin) (r : RegionValue)
   pub origin : ComesFrom x o r
 
 -- The task's own roots are there, and so are those of its arguments' regions. A root that it made last under a
--- number is its own, under one number alone, and no argument's region is of it.
+-- number is its own; where it has points, it is so under one number alone, and no argument's region with points is of it.
 pub record KnowsRoots (x : World) : Type 0 where
   pub own_there : (r : ℕ) → Among x.own r → x.there r ≡ true
   pub args_there : (i : ℕ) (r : RegionValue) → region_in (slice_get x.args i) ≡ Some r → x.there r.root.0 ≡ true
   pub last_own : (i r : ℕ) → x.last i ≡ Some r → Among x.own r
-  pub one_number : (i j r : ℕ) → x.last i ≡ Some r → x.last j ≡ Some r → i ≡ j
-  pub args_other : (i j : ℕ) (r : RegionValue) → region_in (slice_get x.args i) ≡ Some r → x.last j ≢ Some r.root.0
+  pub one_number : (i j r p : ℕ) → x.last i ≡ Some r → x.last j ≡ Some r → has (x.points r) p ≡ true → i ≡ j
+  pub args_other : (i j p : ℕ) (r : RegionValue) → region_in (slice_get x.args i) ≡ Some r → has r.points p ≡ true → x.last j ≢ Some r.root.0
 
 -- a partition's children are regions of its root, and share no point where its flag says so
 pub record IsPartition (x : World) (sp : Option ℕ) (d : Bool) (q : PartitionValue) : Type 0 where

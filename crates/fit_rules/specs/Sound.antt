@@ -20,13 +20,12 @@ use Rattle.machine_terms.specs.declared.value.Value.{Value}
 use Rattle.machine_terms.specs.declared.value.Value.TheVariants as value
 use Rattle.machine_terms.specs.Calls.{count_numbers}
 use Rattle.machine_terms.specs.Jumps.{may_jump, fetch, taken, point_at}
-use Rattle.machine_terms.specs.Opening.{opening}
 use Rattle.machine_terms.specs.Pointers.{region_in}
 use Rattle.code_rules.specs.Instructions.{computing, comparing}
 use Rattle.fit_rules.specs.Shapes.{Among, Each, Is, IsPlain, child_at, held_at, Shape, integer, truth, index, pointer, space, region, partition, cut_from, awaited, Numeric, NumberIs, Origin, own_as, part, unknown, World, KnowsRoots, Are}
 use Rattle.fit_rules.specs.Marks.{counts, lies, in_slot, the_colour, colour_in, point_in, Colour, around, child_in, top_colour, top_at, top_parted, parted, Mark, Suits, Into, Stores, ColoursStand, stacked, topped}
-use Rattle.fit_rules.specs.Fits.{Program, kind_at, shape_at, Covers, declared_claims, claims}
-use Rattle.fit_rules.specs.Ends.{IsNeeded, called}
+use Rattle.fit_rules.specs.Fits.{Begins, Program, kind_at, shape_at, Covers, declared_claims, claims}
+use Rattle.fit_rules.specs.Ends.{IsNeeded}
 
 -- a shape of which nothing is pending
 pub data Settled : Shape → Type 0 where
@@ -154,13 +153,12 @@ module _ (g : Program) (t : TaskCode) where
       Suits x t.params n
       (slice_set (slice_set vs v (value.Number (taken ptr p))) c (value.Number (pos i +ℤ pos 1))) st
 
-  -- What a call needs to know: with arguments of these shapes the slots of the called task's opening
-  -- frame suit its first mark, its declared needs are on regions, and what it needs is within what the caller needs.
+  -- What a call needs to know: a frame of the called task may begin with arguments of these shapes, its declared needs are on
+  -- regions, and what it needs is within what the caller needs. And such a frame suits the first mark of its code.
   abbrev pub Opens : Mark → ℕ → TaskCode → List Shape → Type 0
-  Opens m task callee args = (x : World) (vs st ws : List Value) → KnowsRoots x → Suits x t.params m vs st →
-      Are (around x m vs) args ws →
-      Suits (called x ws) callee.params (g.marks task 0) (opening 0 0 task callee ws).slots []
-      × Each (IsNeeded g x ws) callee.needs × IsWithin (declared_claims callee.needs ws) (claims g x t)
+  Opens m task callee args = Into callee.params (g.begins task) (g.marks task 0)
+      × ((x : World) (vs st ws : List Value) → KnowsRoots x → Suits x t.params m vs st → Are (around x m vs) args ws →
+      Begins g x callee task ws × Each (IsNeeded g x ws) callee.needs × IsWithin (declared_claims callee.needs ws) (claims g x t))
 
   module _ (k : ℕ) where
     -- what suits a mark may go on at a place

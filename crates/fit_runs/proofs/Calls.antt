@@ -6,6 +6,7 @@ use Rattle.std.proofs.lemmas.List.{append-nil, length-replicate}
 use Rattle.std.proofs.lemmas.Option.{same_Some}
 use Rattle.std.proofs.Math.ListN.{get_or-append}
 use Rattle.std.proofs.Math.Seq.{get_or-append_seam}
+use Rattle.plain_values.specs.Points.{points}
 use Rattle.region_tree.specs.Requirements.{IsWithin, is_within}
 use Rattle.regent_tree.specs.declared.outcome.RootImage.{RootImage}
 use Rattle.task_code.specs.declared.code.TaskCode.{TaskCode}
@@ -34,7 +35,7 @@ use Rattle.fit_laws.proofs.Passing.{passes}
 use Rattle.fit_runs.specs.Runs.{IsSoundCode}
 use Rattle.fit_runs.proofs.Standing.{Agrees, agrees_called, AreReached, Grew, InstanceFits}
 use Rattle.fit_runs.proofs.Claiming.{claim_there, reached_within}
-use Rattle.fit_runs.proofs.Closing.{ids_of, image_closed, numbers_closed}
+use Rattle.fit_runs.proofs.Closing.{ids_of, image_closed, numbers_closed, numbers_left}
 use Rattle.region_tree.specs.declared.tree.RootId.{RootId}
 
 -- How an instance ends that fits: with a value of its task's result type, and with roots that have grown, of which the last
@@ -137,7 +138,9 @@ module _ (g : Program) (sound : IsSoundCode g) (turns : ℕ) (few : turns < 2 ^ 
         contents = record {
           given = λ r h. agrees.given r (grew.there r h);
           below = λ n a. agrees.below n (numbers_closed own d n a);
+          present = λ r h. numbers_left own d r (other r h) (agrees.present r (grew.there r h));
           spaces = λ r h. ap (λ (q : RootImage). q.space) (same r h) ∙ agrees.spaces r (grew.there r h) ∙ grew.spaces r h;
+          points = λ r h. sym (grew.points r h) ∙ agrees.points r (grew.there r h) ∙ ap (λ (q : RootImage). points q.count) (sym (same r h));
           kept = λ r q p h. subst (λ (k : RootImage). NumberIs (shape_at g (x.spaces r) q) (get_or (get_or k.fields q []) p (pos 0))) (sym (same r h))
               (subst (λ n. NumberIs (shape_at g n q) (kept_at d r q p)) (grew.spaces r h) (agrees.kept r q p (grew.there r h)));
         };
@@ -252,7 +255,7 @@ module _ (g : Program) (sound : IsSoundCode g) (turns : ℕ) (few : turns < 2 ^ 
 
 -- a world with children more has the same roots
 pub grew_by : (g : Program) (cs : List CallOut) (x : World) (c d : Contents) → SameColumns x c d → Grew x c (grown_by g x cs) d
-grew_by g [] x c d h = record { there = λ r e. e; spaces = λ r e. refl; own = λ r a e. a; columns = h }
+grew_by g [] x c d h = record { there = λ r e. e; spaces = λ r e. refl; points = λ r e. refl; own = λ r a e. a; columns = h }
 grew_by g (k ∷ cs) x c d h =
     let more = grew_by g cs (grown x (g.results k.task)) c d h in
-    record { there = more.there; spaces = more.spaces; own = more.own; columns = more.columns }
+    record { there = more.there; spaces = more.spaces; points = more.points; own = more.own; columns = more.columns }

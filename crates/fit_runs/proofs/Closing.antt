@@ -30,6 +30,22 @@ image_left own (r ∷ rs) n h = of (is_among own r) refl (image_left own rs n h)
 pub image_closed : (own : List RootId) (c : Contents) (n : ℕ) → ((m : ℕ) → Among (ids_of own) m → m ≢ n) → image_of (closed own c) n ≡ image_of c n
 image_closed own c n h = image_left own c.roots n h
 
+-- a root that isn't closed is still there
+pub numbers_left : (own : List RootId) (c : Contents) (n : ℕ) → ((m : ℕ) → Among (ids_of own) m → m ≢ n) → Among (numbers c) n → Among (numbers (closed own c)) n
+numbers_left own c n h a = over c.roots a
+  where
+    over : (rs : List Root) → Among (map (λ (r : Root). r.id.0) rs) n → Among (map (λ (r : Root). r.id.0) (filter (λ r. not (is_among own r)) rs)) n
+    over [] a = a
+    over (r ∷ rs) a = of (is_among own r) refl a (over rs)
+      where
+        of : (b : Bool) → is_among own r ≡ b → Among (map (λ (r : Root). r.id.0) (r ∷ rs)) n →
+            (Among (map (λ (r : Root). r.id.0) rs) n → Among (map (λ (r : Root). r.id.0) (filter (λ r. not (is_among own r)) rs)) n) →
+            Among (map (λ (r : Root). r.id.0) (cond (not b) (r ∷ filter (λ r. not (is_among own r)) rs) (filter (λ r. not (is_among own r)) rs))) n
+        of true e (inl same) more = absurd (h r.id.0 (among_ids own r e) same)
+        of true e (inr a) more = more a
+        of false e (inl same) more = inl same
+        of false e (inr a) more = inr (more a)
+
 pub numbers_closed : (own : List RootId) (c : Contents) (n : ℕ) → Among (numbers (closed own c)) n → Among (numbers c) n
 numbers_closed own c n h = over c.roots h
   where

@@ -6,7 +6,7 @@ use Rattle.std.proofs.lemmas.Option.{none-some}
 use Rattle.lane_kernels.specs.declared.numbers.Mode.{Mode}
 use Rattle.lane_kernels.specs.declared.numbers.Mode.TheVariants as mode
 use Rattle.lane_kernels.specs.declared.numbers.FieldKind.{FieldKind}
-use Rattle.plain_values.specs.Points.{has}
+use Rattle.plain_values.specs.Points.{has, points}
 use Rattle.region_tree.specs.Pieces.{Held}
 use Rattle.region_tree.specs.declared.piece.Part.{Part}
 use Rattle.region_tree.specs.Requirements.{mode_at}
@@ -156,7 +156,9 @@ module _ (g : Program) (x : World) (t : TaskCode) (c : Contents) (ps : List Part
       let alike = alike_parts ps c in record {
         given = λ r h. subst (λ n. r < n) (sym alike.1) (agrees.given r h);
         below = λ r h. subst (λ n. r < n) (sym alike.1) (agrees.below r (subst (λ ns. Among ns r) alike.0 h));
+        present = λ r h. subst (λ ns. Among ns r) (sym alike.0) (agrees.present r h);
         spaces = λ r h. ap (λ (s : RootShape). s.space) (alike.2 r) ∙ agrees.spaces r h;
+        points = λ r h. agrees.points r h ∙ ap (λ (s : RootShape). points s.count) (sym (alike.2 r));
         kept = λ r f p h. subst (NumberIs (shape_at g (x.spaces r) f)) (sym (parts_given ps c r f p can))
             (by_part r f p (part_of ps r f) refl (agrees.kept r f p h));
       }

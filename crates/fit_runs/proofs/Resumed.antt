@@ -176,7 +176,7 @@ module _ (g : Program) (sound : IsSoundCode g) (turns : ℕ) (few : turns < 2 ^ 
     h,
     (
       x,
-      record { there = λ r e. e; spaces = λ r e. refl; own = λ r a e. a; columns = columns_left ps },
+      record { there = λ r e. e; spaces = λ r e. refl; points = λ r e. refl; own = λ r a e. a; columns = columns_left ps },
       fits.machine.beside.own,
       agrees_left ps pf can,
     ),

@@ -27,7 +27,8 @@ use Rattle.memory_laws.proofs.Made.{size_of, zero_at, zeros}
 use Rattle.fit_rules.specs.Shapes.{Among, KnowsRoots, NumberIs, World}
 use Rattle.fit_rules.specs.Fits.{claims, count_at, kept_as, Program, requires, root_claims, shape_at}
 use Rattle.fit_rules.specs.Ends.{rooted}
-use Rattle.fit_laws.proofs.Rooting.{claims_rooted, own_new_or_old, same_space, still_there}
+use Rattle.fit_laws.proofs.Begun.{same_points, same_space, still_there}
+use Rattle.fit_laws.proofs.Rooting.{claims_rooted, own_new_or_old}
 use Rattle.fit_runs.proofs.Standing.{Agrees, AreReached, Grew}
 use Rattle.fit_runs.proofs.Claiming.{claim_there, among_both, among_map}
 
@@ -46,6 +47,15 @@ nothing_is kind.Int64 n = omega (arith, ints)
 nothing_is kind.Truth n = inl refl
 nothing_is kind.Index n = omega (arith, ints)
 nothing_is kind.Pointer n = (omega (arith, ints), omega arith)
+
+among_left : (ms ns : List ℕ) (r : ℕ) → Among ms r → Among (ms ++ ns) r
+among_left [] ns r a = absurd a
+among_left (m ∷ ms) ns r (inl e) = inl e
+among_left (m ∷ ms) ns r (inr a) = inr (among_left ms ns r a)
+
+among_right : (ms ns : List ℕ) (r : ℕ) → Among ns r → Among (ms ++ ns) r
+among_right [] ns r a = a
+among_right (m ∷ ms) ns r a = inr (among_right ms ns r a)
 
 -- ---- the roots with one more
 
@@ -113,13 +123,23 @@ module _ (g : Program) (x : World) (c : Contents) (agrees : Agrees g x c) (i sp 
     given = λ r h. of_there r (r == root) refl h;
     below = λ r h. ⊎_elim (λ a. let l = agrees.below r a in omega (arith, l)) (λ a. ⊎_elim (λ e. omega (arith, e)) (λ b. absurd b) a)
         (among_both (numbers c) (root ∷ []) r (subst (λ ns. Among ns r) (map-append (λ (q : Root). q.id.0) c.roots _) h));
+    present = λ r h. subst (λ ns. Among ns r) (sym (map-append (λ (q : Root). q.id.0) c.roots _)) (of_present r (r == root) refl h);
     spaces = λ r h. of_space r (r == root) refl h;
+    points = λ r h. of_points r (r == root) refl h;
     kept = λ r f p h. of_kept r f p (r == root) refl h;
   }
     where
       of_there : (r : ℕ) (b : Bool) → r == root ≡ b → b || x.there r ≡ true → r < suc root
       of_there r true e h = omega (arith, eqb-true r root e)
       of_there r false e h = let l = agrees.given r h in omega (arith, l)
+
+      of_present : (r : ℕ) (b : Bool) → r == root ≡ b → b || x.there r ≡ true → Among (numbers c ++ root ∷ []) r
+      of_present r true e h = among_right (numbers c) (root ∷ []) r (inl (sym (eqb-true r root e)))
+      of_present r false e h = among_left (numbers c) (root ∷ []) r (agrees.present r h)
+
+      of_points : (r : ℕ) (b : Bool) → r == root ≡ b → b || x.there r ≡ true → cond b (points n) (x.points r) ≡ points (image_of d r).count
+      of_points r true e h = ap (λ (m : RootImage). points m.count) (sym new_image) ∙ ap (λ k. points (image_of d k).count) (sym (eqb-true r root e))
+      of_points r false e h = agrees.points r h ∙ ap (λ (m : RootImage). points m.count) (sym (old_image r (eqb-false r root e)))
 
       of_space : (r : ℕ) (b : Bool) → r == root ≡ b → b || x.there r ≡ true → (image_of d r).space ≡ cond b sp (x.spaces r)
       of_space r true e h = ap (λ k. (image_of d k).space) (eqb-true r root e) ∙ ap (λ (m : RootImage). m.space) new_image
@@ -139,6 +159,7 @@ module _ (g : Program) (x : World) (c : Contents) (agrees : Agrees g x c) (i sp 
   grew_rooted = record {
     there = still_there x i root sp n fresh_root;
     spaces = same_space x i root sp n fresh_root;
+    points = same_points x i root sp n fresh_root;
     own = λ r h q. ⊎_elim (λ a. a) (λ e. absurd (not_made r q (sym e))) (own_new_or_old x i root sp n fresh_root x.own r h);
     columns = old_columns;
   }

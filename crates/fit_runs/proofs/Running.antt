@@ -117,7 +117,9 @@ runs_fit g turns k t x args sound few there none nothing fits more j comes =
         contents = record {
           given = λ r h. absurd (false≢true (sym (nothing r) ∙ h));
           below = λ r h. absurd h;
+          present = λ r h. absurd (false≢true (sym (nothing r) ∙ h));
           spaces = λ r h. absurd (false≢true (sym (nothing r) ∙ h));
+          points = λ r h. absurd (false≢true (sym (nothing r) ∙ h));
           kept = λ r f p h. absurd (false≢true (sym (nothing r) ∙ h));
         };
         needs = ap (λ ns. declared_claims ns args ++ []) (sym none);
@@ -127,4 +129,15 @@ runs_fit g turns k t x args sound few there none nothing fits more j comes =
         results = λ n l. absurd (omega (arith, l));
       };
     }) more j comes in
-    record { world = s.world; task = s.task; place = s.place; there = s.there; fits = record { code = refl; machine = s.fits.machine } }
+    let has = s.fits.contents in record {
+      world = s.world;
+      task = s.task;
+      place = s.place;
+      there = s.there;
+      fits = record { code = refl; machine = s.fits.machine };
+      roots = λ r h. record { present = has.present r h; space = sym (has.spaces r h); points = has.points r h; kept = λ f p. has.kept r f p h };
+      own = sym s.fits.machine.beside.own;
+      needs = s.fits.needs;
+      count = s.fits.count;
+      results = s.fits.results;
+    }
