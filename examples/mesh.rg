@@ -1,10 +1,13 @@
 import "regent"
 
 fspace corner { x : int64, y : int64, load : int64 }
-fspace triangle { a : int1d, b : int1d, c : int1d }
+-- a triangle leads to its corners; into which region, a use of the field space says
+fspace triangle(corners : region(ispace(int1d), corner)) {
+  a : int1d(corner, corners), b : int1d(corner, corners), c : int1d(corner, corners)
+}
 
 -- a square of n by n squares, each of which is cut into two triangles
-task lay_out(corners : region(ispace(int1d), corner), triangles : region(ispace(int1d), triangle), n : int64)
+task lay_out(corners : region(ispace(int1d), corner), triangles : region(ispace(int1d), triangle(corners)), n : int64)
 where writes(corners.{x, y}), writes(triangles.{a, b, c}) do
   for k in corners do
     k.x = int64(k) % (n + 1)
@@ -14,32 +17,34 @@ where writes(corners.{x, y}), writes(triangles.{a, b, c}) do
     var s = int64(t) / 2
     var low = s / n * (n + 1) + s % n
     if int64(t) % 2 == 0 then
-      t.a = low
-      t.b = low + 1
+      t.a = corners[low]
+      t.b = corners[low + 1]
+      t.c = corners[low + n + 1]
     else
-      t.a = low + n + 2
-      t.b = low + n + 1
+      t.a = corners[low + n + 2]
+      t.b = corners[low + n + 1]
+      t.c = corners[low + 1]
     end
-    if int64(t) % 2 == 0 then t.c = low + n + 1 else t.c = low + 1 end
   end
 end
 
--- each triangle loads its corners with twice its area
-task load(own : region(ispace(int1d), triangle), reached : region(ispace(int1d), corner))
+-- each triangle loads its corners with twice its area; the task is given the corners that its own triangles reach, and no others
+task load(own : region(ispace(int1d), triangle(wild)), reached : region(ispace(int1d), corner))
 where reads(own), reads(reached.{x, y}), reduces +(reached.load) do
   for t in own do
-    var width = reached[t.b].x - reached[t.a].x
-    var height = reached[t.b].y - reached[t.a].y
-    var area = width * (reached[t.c].y - reached[t.a].y) - height * (reached[t.c].x - reached[t.a].x)
-    reached[t.a].load += area
-    reached[t.b].load += area
-    reached[t.c].load += area
+    var a = dynamic_cast(int1d(corner, reached), t.a)
+    var b = dynamic_cast(int1d(corner, reached), t.b)
+    var c = dynamic_cast(int1d(corner, reached), t.c)
+    var area = (b.x - a.x) * (c.y - a.y) - (b.y - a.y) * (c.x - a.x)
+    a.load += area
+    b.load += area
+    c.load += area
   end
 end
 
 task main(n : int64, count : int64)
   var corners = region(ispace(int1d, (n + 1) * (n + 1)), corner)
-  var triangles = region(ispace(int1d, 2 * n * n), triangle)
+  var triangles = region(ispace(int1d, 2 * n * n), triangle(corners))
   lay_out(corners, triangles, n)
   var pieces = partition(equal, triangles, ispace(int1d, count))
   var first = image(corners, pieces, triangles.a)

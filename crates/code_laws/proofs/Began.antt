@@ -1,6 +1,6 @@
 -- A region that began as a part lies within those within which its whole lies.
-use Rattle.std.proofs.Common.{◌≡◌, ℕ, ◌<◌, ◌≤◌, inl, inr, Option, Some, None, refl, sym, ap, ◌∙◌, subst, arith, ⊎_elim}
-use Rattle.std.specs.Prelude.{get_or, length}
+use Rattle.std.proofs.Common.{◌≡◌, ℕ, ◌<◌, inl, inr, Option, Some, None, refl, sym, ap, ◌∙◌, subst, arith, ⊎_elim}
+use Rattle.std.specs.Prelude.{get_or}
 use Rattle.regent_tree.specs.Running.{Here, State}
 use Rattle.regent_tree.specs.Scopes.{bound_as}
 use Rattle.regent_tree.specs.Values.{Region, Value, a_region, region_of}
@@ -16,7 +16,7 @@ use Rattle.code_laws.specs.Steps.{Setting, Taking}
 use Rattle.code_laws.specs.Taking.{AreParts, BeginsWhole, BeginsWithin, IsFresh, IsHad, IsHadBy, IsSubregion, LiesUp, given_region, pairs_taken, up_part}
 use Rattle.code_laws.proofs.Pointing.{numbered}
 use Rattle.code_laws.proofs.Reaching.{part_lies, region_had}
-use Rattle.code_laws.proofs.Under.{IsOfNumber, lies_up, sub_itself, sub_through, under_named, under_numbered}
+use Rattle.code_laws.proofs.Under.{lies_up, sub_itself, sub_through}
 
 abbrev number_in : Term → ℕ
 number_in (term.Name i) = i

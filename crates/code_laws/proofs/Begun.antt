@@ -1,5 +1,5 @@
 -- A variable begins with a new region or with a partition; one of a written type has a type like what it begins with.
-use Rattle.std.proofs.Common.{◌≡◌, ℕ, suc, ◌≤◌, [], List, None, Some, Option, refl, sym, subst}
+use Rattle.std.proofs.Common.{◌≡◌, ℕ, suc, ◌≤◌, [], List, Some, Option, refl, sym, subst}
 use Rattle.std.specs.Prelude.{length}
 use Rattle.regent_tree.specs.Evaluation.{static_type_of, value}
 use Rattle.regent_tree.specs.Execution.{after_statement, bind, exec}

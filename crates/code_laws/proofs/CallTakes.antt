@@ -16,7 +16,6 @@ use Rattle.regent_tree.specs.Store.{no_root}
 use Rattle.regent_tree.specs.Syntax.{Expression, Expressions, Name, an_expr, no_expr}
 use Rattle.regent_tree.specs.Typing.{param_types, parent_of, colour_of}
 use Rattle.regent_tree.specs.Values.{Partition, Region, Value, a_partition, a_region, a_truth, partition_of, region_of}
-use Rattle.regent_tree.specs.declared.facts.Term.{Term}
 use Rattle.regent_tree.specs.declared.facts.Term.TheVariants as term
 use Rattle.regent_tree.specs.declared.typing.StaticType.{StaticType}
 use Rattle.task_code.specs.declared.code.NeedCode.{NeedCode}

@@ -33,8 +33,8 @@ use Rattle.code_laws.proofs.Rows.{does_said}
 use Rattle.code_laws.proofs.Begun.{begins_as}
 use Rattle.code_laws.proofs.Runs.{comes_said, leads_none, then}
 use Rattle.code_laws.proofs.Variables.{binds}
-use Rattle.code_laws.proofs.Besides.{HasNoPart, no_part_goes, partition_no_part}
-use Rattle.code_laws.proofs.Under.{partition_not_region, type_under}
+use Rattle.code_laws.proofs.Besides.{HasNoPart, no_part_goes}
+use Rattle.code_laws.proofs.Under.{type_under}
 
 -- the code of a difference, and its type, by that of the first
 difference_code : (w : Where) (p q : Name) (own : ℕ) (t u : StaticType) → IsPartition t →

@@ -1,32 +1,25 @@
 -- Loops over index spaces, over regions that have names, and over parts of partitions that have names.
-use Rattle.std.proofs.Common.{◌≡◌, ◌⊎◌, inl, inr, ℕ, suc, ◌^◌, ◌<◌, ◌≤◌, List, [], ◌∷◌, ◌++◌, Bool, true, pos, Some, refl, sym, ap, ◌∙◌, subst, ⊎_elim}
+use Rattle.std.proofs.Common.{◌≡◌, ◌⊎◌, inl, inr, ℕ, suc, ◌^◌, ◌<◌, ◌≤◌, [], ◌∷◌, ◌++◌, Bool, true, pos, Some, refl, sym, ap, ◌∙◌, subst, ⊎_elim}
 use Rattle.std.specs.Prelude.{get_or, length}
 use Rattle.std.proofs.lemmas.List.{append_assoc}
 use Rattle.plain_values.specs.Points.{has}
-use Rattle.check_laws.proofs.Scopes.{found_by_number}
 use Rattle.regent_tree.specs.Accesses.{space_in}
 use Rattle.regent_tree.specs.Evaluation.{value}
 use Rattle.regent_tree.specs.Execution.{Going, after_statement, exec, exec_block, items_of, looping, rounds as rounds_over}
 use Rattle.regent_tree.specs.Running.{Here, Run, State}
 use Rattle.regent_tree.specs.Scopes.{bound_as, bound_to}
-use Rattle.regent_tree.specs.StaticTypes.{Reach}
 use Rattle.regent_tree.specs.Syntax.{Name, Expression, number_expr, truth_expr, chain_expr, prefix_expr, call_expr, access_expr, convert_expr, is_null_expr, null_expr, cast_expr, space_expr, no_step, field_step, at_step, for_in_form, Block}
-use Rattle.regent_tree.specs.Typing.{child_type, colour_of, is_pointer, parent_of, reaches_of, scope_after_block, taken_from, type_of_element}
-use Rattle.regent_tree.specs.Values.{Partition, Region, Value, a_region, region_of}
-use Rattle.regent_tree.specs.declared.facts.Term.{Term}
-use Rattle.regent_tree.specs.declared.facts.Term.TheVariants as term
-use Rattle.regent_tree.specs.declared.types.Kind.{Kind}
-use Rattle.regent_tree.specs.declared.typing.Bound.{Bound}
+use Rattle.regent_tree.specs.Typing.{is_pointer, parent_of, reaches_of, scope_after_block, taken_from}
+use Rattle.regent_tree.specs.Values.{Region, Value, a_region, region_of}
 use Rattle.regent_tree.specs.declared.typing.StaticType.{StaticType}
-use Rattle.regent_tree.specs.declared.typing.StaticType.TheVariants.{Integer as integer_type, Truth as truth_type, Index as index_type, Pointer as pointer_type, Ispace as ispace_type, Region as region_type, Partition as partition_type, Nothing as no_type, Unknown as unknown_type}
 use Rattle.task_code.specs.declared.instr.Instr.TheVariants as instr
 use Rattle.machine_terms.specs.declared.order.Instance.{Instance}
 use Rattle.code_rules.specs.Expressions.{expr_code}
 use Rattle.code_rules.specs.Pieces.{Piece, op, past, rounds}
-use Rattle.code_rules.specs.Slots.{Where, beside, bound, counter, slot, typed}
+use Rattle.code_rules.specs.Slots.{beside, bound, counter, slot, typed}
 use Rattle.code_rules.specs.Statements.{block_code, form_code}
 use Rattle.code_laws.specs.Arguments.{IsCutName}
-use Rattle.code_laws.specs.Pointers.{AreReached, IsCut, IsOfPart}
+use Rattle.code_laws.specs.Pointers.{AreReached, IsOfPart}
 use Rattle.code_laws.specs.Simple.{IsRegion, IsSpace, a_region_type}
 use Rattle.code_laws.specs.Standing.{Agrees, Aside, Does, IsInside, IsOf, SlotsFit, Stands, nothing, of_region, program_of, where_of}
 use Rattle.code_laws.specs.Steps.{Setting, placed}

@@ -1,7 +1,6 @@
 -- Parameters as a task has them where its body begins: the regions of their pointers are the values of parameters.
-use Rattle.std.proofs.Common.{◌≡◌, ⊎_elim, ℕ, zero, suc, ◌+◌, ◌<◌, ◌≤◌, List, ◌++◌, [], ◌∷◌, Bool, true, false, Some, None, refl, sym, ap, ◌∙◌, subst, arith}
+use Rattle.std.proofs.Common.{◌≡◌, ℕ, zero, suc, ◌+◌, List, ◌++◌, [], ◌∷◌, Bool, true, false, Some, None, refl, sym, ap, ◌∙◌, subst, arith}
 use Rattle.std.specs.Prelude.{cond, get_or, length, ◌==◌}
-use Rattle.std.proofs.lemmas.Bool.{cases_lt, eqb-false, eqb-true}
 use Rattle.std.proofs.lemmas.List.{get_or_default, length-append}
 use Rattle.regent_tree.specs.Accesses.{region_bound, regions_reached, space_in}
 use Rattle.regent_tree.specs.Meaning.{entered, entered_as}

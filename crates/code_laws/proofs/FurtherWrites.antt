@@ -22,7 +22,7 @@ use Rattle.code_rules.specs.Expressions.{expr_code}
 use Rattle.code_rules.specs.Pieces.{past, ◌⨟◌}
 use Rattle.code_rules.specs.Slots.{Where, typed}
 use Rattle.code_rules.specs.Statements.{form_code}
-use Rattle.local_form.specs.LocalForm.{are_fields}
+use Rattle.code_laws.specs.Fields.{are_fields}
 use Rattle.code_laws.specs.Pointers.{Assigned, FieldKeeps, IsPointed, IsPointer, a_pointer_type}
 use Rattle.code_laws.specs.Simple.{IsInteger, an_integer}
 use Rattle.code_laws.specs.Standing.{Agrees, Aside, Comes, Does, IsOf, SlotsFit, Stands, machine_value, of_integer, of_pointer, where_of}

@@ -13,7 +13,7 @@ use Rattle.code_rules.specs.Programs.{place_of}
 use Rattle.code_laws.specs.Handing.{AreTypedBy, IsTypedBy, forms_by}
 use Rattle.code_laws.specs.HandingExample.{HandingExampleHolds, handing_program}
 use Rattle.regent_tree.specs.Limits.{WithinLimits, parts_of_program}
-use Rattle.code_laws.specs.LocalPrograms.{IsLocalProgramRun}
+use Rattle.code_laws.specs.AcceptedPrograms.{IsProgramRun}
 use Rattle.code_laws.specs.Programs.{IsTypedRun, gives_nothing, gives_scalar}
 use Rattle.code_laws.proofs.LocalExample.{all_keep}
 use Rattle.code_laws.proofs.LocalRuns.{accepted_programs_run_as_meant}
@@ -22,6 +22,7 @@ use Rattle.code_laws.specs.Simple.{a_region_type, a_space_type, an_integer, fits
 use Rattle.code_laws.specs.Standing.{of_integer}
 use Rattle.code_laws.proofs.Under.{made_may, taken_may}
 use Rattle.code_laws.specs.Typed.{IsTypedBlock}
+use Rattle.code_laws.proofs.WrittenForms.{program_written}
 
 -- the entry task
 abbrev main : TaskTree
@@ -152,8 +153,8 @@ run = record {
 within : WithinLimits handing_program
 within = record { each = all_keep (parts_of_program handing_program) refl; nodes = omega (arith) }
 
-accepted : IsLocalProgramRun handing_program (pos 2 ∷ [])
-accepted = record { within = within; accepted = refl; local = refl; numbers = (omega (arith, ints), tt) }
+accepted : IsProgramRun handing_program (pos 2 ∷ [])
+accepted = record { within = within; accepted = refl; written = program_written handing_program refl; numbers = (omega (arith, ints), tt) }
 
 pub handing_example_holds : HandingExampleHolds
 unfolding int_wrap digits

@@ -1,5 +1,5 @@
 -- Images and preimages: partitions by where a field leads.
-use Rattle.std.proofs.Common.{◌≡◌, inl, inr, ℕ, suc, ◌<◌, ◌^◌, ℤ, List, [], ◌∷◌, ◌++◌, Bool, false, true, Option, Some, None, refl, sym, ap, ◌∙◌, subst, arith}
+use Rattle.std.proofs.Common.{◌≡◌, ℕ, suc, ◌<◌, ◌^◌, ℤ, List, [], ◌∷◌, ◌++◌, Bool, false, true, refl, sym, ap, ◌∙◌, subst, arith}
 use Rattle.std.specs.Prelude.{get_or, length, map, slice_get, ◌&&◌, ◌==◌}
 use Rattle.std.specs.List.{list_all, list_any}
 use Rattle.std.specs.List.Sorted.{IsStrictlyIncreasing}
@@ -23,7 +23,7 @@ use Rattle.regent_tree.specs.StaticTypes.{field_kind, field_place}
 use Rattle.regent_tree.specs.Store.{read_at, touch_all}
 use Rattle.regent_tree.specs.Syntax.{Name}
 use Rattle.regent_tree.specs.Typing.{parent_of}
-use Rattle.regent_tree.specs.Values.{Partition, Region, Value, a_region, partition_of, region_of}
+use Rattle.regent_tree.specs.Values.{Partition, Region, Value, partition_of, region_of}
 use Rattle.regent_tree.specs.declared.typing.Bound.{Bound}
 use Rattle.regent_tree.specs.declared.typing.StaticType.{StaticType}
 use Rattle.regent_tree.specs.declared.typing.StaticType.TheVariants.{Partition as partition_type}
@@ -44,7 +44,6 @@ use Rattle.code_rules.specs.Initializers.{field_of}
 use Rattle.code_rules.specs.Pieces.{op}
 use Rattle.code_rules.specs.Slots.{slot_named}
 use Rattle.code_laws.specs.Arguments.{IsCutName, IsParent, LiesBelow, parent_bound}
-use Rattle.code_laws.specs.Simple.{term_in}
 use Rattle.code_laws.specs.Standing.{Agrees, Aside, Comes, SlotsFit, Stands, nothing, of_partition, where_of}
 use Rattle.code_laws.specs.Steps.{Setting, machine_of, on_step, placed}
 use Rattle.code_laws.specs.Taking.{IsSubregion}

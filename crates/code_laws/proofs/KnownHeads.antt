@@ -28,7 +28,6 @@ use Rattle.check_rules.specs.scopes.Sound.{IsSoundTask}
 use Rattle.check_rules.specs.types.Declarations.{params_bound}
 use Rattle.check_rules.specs.types.TypedForms.{field_of}
 use Rattle.expression_laws.proofs.Params.{known_clause, known_param, none_has}
-use Rattle.local_form.specs.LocalForm.{Marked}
 use Rattle.code_laws.specs.Above.{above_in, cut_told, first_told, piece_in, piece_told, whole_of, whole_told}
 use Rattle.code_laws.specs.Handing.{forms_by, takes_by, told_in}
 use Rattle.code_laws.specs.Privileges.{BeganAsPart, IsKnownBehind}
@@ -44,10 +43,8 @@ use Rattle.value_laws.specs.Spaces.{AreSpaced}
 use Rattle.code_laws.proofs.LocalValues.{AreAmong, value_other}
 use Rattle.code_laws.specs.Taking.{MayDo, pairs_in}
 use Rattle.code_laws.proofs.DeclaredNeeds.{none_made, none_within, pair_listed, region_param}
-use Rattle.code_laws.proofs.LocalNames.{AllKept, IsKept, kept_partition, kept_region, kept_scalar, kept_value, region_of_number}
+use Rattle.code_laws.proofs.LocalNames.{AllKept, IsKept, kept_partition, kept_region, kept_value, region_of_number}
 use Rattle.code_laws.proofs.Privileges.{allowed_is_needed, mode_in}
-use Rattle.code_laws.proofs.LocalTypes.{simple_other}
-use Rattle.code_laws.proofs.Values.{scalar_simple}
 
 -- parameters, of which the head of a task tells that one lies within another
 pub record IsPair (tree : Tree) (task : TaskTree) (a b : Term) : Type 0 where
@@ -60,7 +57,7 @@ pub record IsPair (tree : Tree) (task : TaskTree) (a b : Term) : Type 0 where
   pub among : Contains (pairs_in (scope_of tree task).known) (lower, upper)
 
 -- a variable that began as a part: no other part is told of it
-pub record IsPiece (m : Marked) (task : TaskTree) (s : Scope) (a b : Term) : Type 0 where
+pub record IsPiece (task : TaskTree) (s : Scope) (a b : Term) : Type 0 where
   pub own : ℕ
   pub cut : ℕ
   pub colour : Colour
@@ -91,8 +88,8 @@ IsToldHere s (Made i) = Unit {0}
 
 -- At a place of a task's body nothing is known but what its head tells of its parameters, which regions were made behind
 -- them, which began as parts, and of which regions partitions are, of each in scope. Names that are bound there are behind them too.
-pub record KnowsFacts (m : Marked) (tree : Tree) (task : TaskTree) (s : Scope) : Type 0 where
-  pub within : (a b : Term) → Contains s.known (Within a b) → IsPair tree task a b ⊎ IsPiece m task s a b
+pub record KnowsFacts (tree : Tree) (task : TaskTree) (s : Scope) : Type 0 where
+  pub within : (a b : Term) → Contains s.known (Within a b) → IsPair tree task a b ⊎ IsPiece task s a b
   pub made : (i : ℕ) → Contains s.known (Made i) → IsMadeHere task s i
   pub parts : (k : Known) → Has s.known k → IsToldHere s k
   pub cuts : (b : Bound) → Has s.names b → (k : Known) → Has (known_of_type b.static_type) k → Has s.known k
@@ -100,8 +97,8 @@ pub record KnowsFacts (m : Marked) (tree : Tree) (task : TaskTree) (s : Scope) :
 
 -- Also the types of all names there have arguments as their field spaces declare, each name has its place, and what is told
 -- there is the first that is told in the body.
-pub record KnowsHead (m : Marked) (tree : Tree) (task : TaskTree) (s : Scope) : Type 0 where
-  pub facts : KnowsFacts m tree task s
+pub record KnowsHead (tree : Tree) (task : TaskTree) (s : Scope) : Type 0 where
+  pub facts : KnowsFacts tree task s
   pub spaced : AreSpaced tree s.names
   pub placed : ArePlaced s.names
   pub told : ToldUpTo (told_in tree task) s
@@ -124,14 +121,14 @@ module _ (total : List Known) where
   told_here {s = s} up f n e = ap (first_told f) up.known ∙ told_left f s.known up.more n e
 
   -- a region that was made began as no part
-  pub made_above_none : {m : Marked} {tree : Tree} {task : TaskTree} {s : Scope} → KnowsFacts m tree task s → ToldUpTo total s → (i : ℕ) → Contains s.known (Made i) →
+  pub made_above_none : {tree : Tree} {task : TaskTree} {s : Scope} → KnowsFacts tree task s → ToldUpTo total s → (i : ℕ) → Contains s.known (Made i) →
       above_in total i ≡ None
   made_above_none {s = s} facts up i c =
       let made = facts.made i c in
       ap (whole_of total) (ap (first_told (cut_told i)) up.known ∙ told_right (cut_told i) s.known up.more made.whole
       ∙ told_none (cut_told i) up.more (λ k g. cut_behind s.next i k made.low (up.behind k g)))
 
-  pub made_piece_none : {m : Marked} {tree : Tree} {task : TaskTree} {s : Scope} → KnowsFacts m tree task s → ToldUpTo total s → (i : ℕ) → Contains s.known (Made i) →
+  pub made_piece_none : {tree : Tree} {task : TaskTree} {s : Scope} → KnowsFacts tree task s → ToldUpTo total s → (i : ℕ) → Contains s.known (Made i) →
       piece_in total i ≡ None
   made_piece_none {s = s} facts up i c =
       let made = facts.made i c in
@@ -139,18 +136,18 @@ module _ (total : List Known) where
       ∙ told_none (piece_told i) up.more (λ k g. piece_untold s.next i k made.low (up.behind k g))
 
   -- within which region a region began, by what is told of it
-  pub above_by : {m : Marked} {tree : Tree} {task : TaskTree} {s : Scope} → KnowsFacts m tree task s → ToldUpTo total s → (i p r : ℕ) (d : Bool) →
+  pub above_by : {tree : Tree} {task : TaskTree} {s : Scope} → KnowsFacts tree task s → ToldUpTo total s → (i p r : ℕ) (d : Bool) →
       first_told (cut_told i) s.known ≡ Some p → Contains s.known (PartOf p r d) → above_in total i ≡ Some r
   above_by {s = s} facts up i p r d cut c =
       ap (whole_of total) (told_here up (cut_told i) p cut)
       ∙ told_here up (whole_told p) r (facts.parts (PartOf p r d) (Has-from_Contains s.known (PartOf p r d) c)).told
 
-pub above_told : {m : Marked} {tree : Tree} {task : TaskTree} {s : Scope} → KnowsHead m tree task s → (i p r : ℕ) (d : Bool) →
+pub above_told : {tree : Tree} {task : TaskTree} {s : Scope} → KnowsHead tree task s → (i p r : ℕ) (d : Bool) →
     first_told (cut_told i) s.known ≡ Some p → Contains s.known (PartOf p r d) → above_in (told_in tree task) i ≡ Some r
 above_told {tree = tree} {task = task} h i p r d cut c = above_by (told_in tree task) h.facts h.told i p r d cut c
 
 -- what is known of a region that began as a part of one
-piece_known : {m : Marked} {tree : Tree} {task : TaskTree} {s : Scope} → KnowsHead m tree task s → (i r : ℕ) → length task.params ≤ i →
+piece_known : {tree : Tree} {task : TaskTree} {s : Scope} → KnowsHead tree task s → (i r : ℕ) → length task.params ≤ i →
     above_in (told_in tree task) i ≡ Some r → BeganAsPart s.known i r
 piece_known {tree = tree} {task = task} {s = s} h i r high above = record {
   upper = λ b c. ⊎_elim
@@ -166,7 +163,7 @@ piece_known {tree = tree} {task = task} {s = s} h i r high above = record {
   made = λ c. absurd (none-some r (sym (made_above_none (told_in tree task) h.facts h.told i c) ∙ above));
 }
 
-pub known_behind : {m : Marked} (tree : Tree) (task : TaskTree) (s : Scope) → KnowsHead m tree task s → IsKnownBehind tree task s.known
+pub known_behind : (tree : Tree) (task : TaskTree) (s : Scope) → KnowsHead tree task s → IsKnownBehind tree task s.known
 known_behind tree task s h = record {
   within = λ i b low c. ⊎_elim
       (λ p.
@@ -180,21 +177,19 @@ known_behind tree task s h = record {
 }
 
 -- what the rules allow of a region with a number may be done with it
-pub may_touch : {m : Marked} (handing : Bool) (tree : Tree) (task : TaskTree) (s : Scope) → IsSoundTask tree task → KnowsHead m tree task s → (i field : ℕ) (a : Access) →
-    may_do (rights_declared tree task) s.known (wanting field a (place.Name i)) ≡ true → MayDo (takes_by handing tree task) (place.Name i) field (mode_in a)
-may_touch false tree task s sound h i field a e = tt
-may_touch true tree task s sound h i field access.Read e = (allowed_is_needed tree task s.known sound (known_behind tree task s h) i field).reads e
-may_touch true tree task s sound h i field access.Write e = (allowed_is_needed tree task s.known sound (known_behind tree task s h) i field).writes e
-may_touch true tree task s sound h i field (access.Reduce o) e = (allowed_is_needed tree task s.known sound (known_behind tree task s h) i field).reduces o e
+pub may_touch : (tree : Tree) (task : TaskTree) (s : Scope) → IsSoundTask tree task → KnowsHead tree task s → (i field : ℕ) (a : Access) →
+    may_do (rights_declared tree task) s.known (wanting field a (place.Name i)) ≡ true → MayDo (takes_by true tree task) (place.Name i) field (mode_in a)
+may_touch tree task s sound h i field access.Read e = (allowed_is_needed tree task s.known sound (known_behind tree task s h) i field).reads e
+may_touch tree task s sound h i field access.Write e = (allowed_is_needed tree task s.known sound (known_behind tree task s h) i field).writes e
+may_touch tree task s sound h i field (access.Reduce o) e = (allowed_is_needed tree task s.known sound (known_behind tree task s h) i field).reduces o e
 
 -- so of a region that a name has
-pub kept_may : {o : Marked} (handing keeping : Bool) (tree : Tree) (task : TaskTree) (s : Scope) → IsSoundTask tree task → KnowsHead o tree task s → (m : Marked) (bs : List Bound) (n : Name) (i : ℕ) (t : StaticType) →
-    IsKept keeping m bs n i t → IsRegion t → (field : ℕ) (a : Access) → may_do (rights_declared tree task) s.known (wanting field a (term_in t)) ≡ true →
-    MayDo (takes_by handing tree task) (term_in t) field (mode_in a)
-kept_may handing keeping tree task s sound h m bs n i t (kept_scalar _ k) r field a e = absurd (simple_other t (scalar_simple t k) r)
-kept_may handing keeping tree task s sound h m bs n i t (kept_value _ k _ _) r field a e = absurd (value_other keeping bs t k r)
-kept_may handing keeping tree task s sound h m bs n i _ (kept_region k sp args _) r field a e = may_touch handing tree task s sound h i field a e
-kept_may handing keeping tree task s sound h m bs n i _ (kept_partition d p keeps among _) r field a e = absurd (elim r [ ])
+pub kept_may : (tree : Tree) (task : TaskTree) (s : Scope) → IsSoundTask tree task → KnowsHead tree task s → (bs : List Bound) (i : ℕ) (t : StaticType) →
+    IsKept true bs i t → IsRegion t → (field : ℕ) (a : Access) → may_do (rights_declared tree task) s.known (wanting field a (term_in t)) ≡ true →
+    MayDo (takes_by true tree task) (term_in t) field (mode_in a)
+kept_may tree task s sound h bs i t (kept_value _ k) r field a e = absurd (value_other true bs t k r)
+kept_may tree task s sound h bs i _ (kept_region k sp args) r field a e = may_touch tree task s sound h i field a e
+kept_may tree task s sound h bs i _ (kept_partition d p keeps among) r field a e = absurd (elim r [ ])
 
 -- what is wanted of a field of an element is allowed where nothing is told
 pub granted_at : (tree : Tree) (task : TaskTree) (s : Scope) (t : StaticType) (e : Expression) (f : Name) (a : Access) → IsRegion t →
@@ -206,19 +201,19 @@ granted_at tree task s _ e f a (a_region_type k sp args r) there lacking =
     (and_parts (may_do (rights_declared tree task) s.known want) true (not-false _ all)).0
 
 -- so of each region that a pointer may go to
-pub reach_may : {m : Marked} (handing keeping : Bool) (task : TaskTree) (w : Where) → IsSoundTask w.tree task → KnowsHead m w.tree task w.scope → Falls w.scope.next w.scope.names →
+pub reach_may : (task : TaskTree) (w : Where) → IsSoundTask w.tree task → KnowsHead w.tree task w.scope → Falls w.scope.next w.scope.names →
     (field sp : ℕ) (a : Access) (rs : List Reach) → AreAmong w.scope.names sp rs →
     list_all (may_do (rights_declared w.tree task) w.scope.known) (map (wanting field a) (regions_named rs)) ≡ true →
-    MayReach (forms_by handing keeping w.tree task) w rs field (mode_in a)
-reach_may handing keeping task w sound h falls field sp a [] among e = tt
-reach_may handing keeping task w sound h falls field sp a (Some (place.Name i) ∷ rs) among e =
+    MayReach (forms_by true true w.tree task) w rs field (mode_in a)
+reach_may task w sound h falls field sp a [] among e = tt
+reach_may task w sound h falls field sp a (Some (place.Name i) ∷ rs) among e =
     let both = and_parts (may_do (rights_declared w.tree task) w.scope.known (wanting field a (place.Name i))) _ e in
     let own = (region_of_number w.scope.next w.scope.names i falls among.0).1 in (
-      subst (λ u. MayDo (takes_by handing w.tree task) u field (mode_in a)) (sym own) (may_touch handing w.tree task w.scope sound h i field a both.0),
-      reach_may handing keeping task w sound h falls field sp a rs among.2 both.1,
+      subst (λ u. MayDo (takes_by true w.tree task) u field (mode_in a)) (sym own) (may_touch w.tree task w.scope sound h i field a both.0),
+      reach_may task w sound h falls field sp a rs among.2 both.1,
     )
-reach_may handing keeping task w sound h falls field sp a (Some (place.Child p c) ∷ rs) among e = absurd among
-reach_may handing keeping task w sound h falls field sp a (None ∷ rs) among e = reach_may handing keeping task w sound h falls field sp a rs among e
+reach_may task w sound h falls field sp a (Some (place.Child p c) ∷ rs) among e = absurd among
+reach_may task w sound h falls field sp a (None ∷ rs) among e = reach_may task w sound h falls field sp a rs among e
 
 abbrev IsMade : Known → Type 0
 IsMade (Made i) = Unit {0}
@@ -262,9 +257,9 @@ pub params_known : (tree : Tree) (t : TaskTree) (b : Bound) → Has (scope_of tr
 params_known tree t b h k g =
     Has-append_left (known_of_params (scope_of tree t).names) (known_of_clauses t.params t.clauses) k (among_params (scope_of tree t).names b h k g)
 
-pub head_begins : {m : Marked} (tree : Tree) (t : TaskTree) → IsSoundTask tree t →
+pub head_begins : (tree : Tree) (t : TaskTree) → IsSoundTask tree t →
     ((b : Bound) → Has (scope_of tree t).names b → (k : Known) → Has (known_of_type b.static_type) k → IsToldHere (scope_of tree t) k) →
-    KnowsFacts m tree t (scope_of tree t)
+    KnowsFacts tree t (scope_of tree t)
 head_begins tree t sound told = record {
   within = λ a b c. ⊎_elim
       (λ p. let d = known_param (scope_of tree t).names (Within a b) p in absurd (none_within d.0.static_type (Within a b) d.2 a b refl))
@@ -323,7 +318,7 @@ head_begins tree t sound told = record {
 
 -- ---- from place to place
 
--- the names at a place stand for what their marks say, and no more is known there
-pub record IsReady (keeping : Bool) (tree : Tree) (task : TaskTree) (m : Marked) (s : Scope) : Type 0 where
-  pub names : AllKept keeping m s.names
-  pub head : KnowsHead m tree task s
+-- what the names at a place stand for is known, and no more is known there
+pub record IsReady (tree : Tree) (task : TaskTree) (s : Scope) : Type 0 where
+  pub names : AllKept true s.names
+  pub head : KnowsHead tree task s

@@ -28,7 +28,6 @@ use Rattle.code_laws.specs.Above.{cut_told, first_told, piece_told}
 use Rattle.code_laws.specs.Handing.{taking_of, told_in}
 use Rattle.code_laws.specs.Steps.{Taking}
 use Rattle.code_laws.specs.Taking.{LiesUp, known_of_pairs, pairs_in, up_itself, up_part}
-use Rattle.local_form.specs.LocalForm.{Marked}
 use Rattle.code_laws.proofs.KnownHeads.{IsPair, IsPiece, KnowsHead, above_told, told_here}
 
 any_more : {A : Type 0} (p q : A → Bool) (xs : List A) → ((x : A) → p x ≡ true → q x ≡ true) → list_any p xs ≡ true → list_any q xs ≡ true
@@ -52,11 +51,11 @@ abbrev colour_in : Term → Colour
 colour_in (place.Name i) = Unknown
 colour_in (place.Child p c) = c
 
-module _ {m : Marked} (tree : Tree) (task : TaskTree) (s : Scope) (head : KnowsHead m tree task s) where
+module _ (tree : Tree) (task : TaskTree) (s : Scope) (head : KnowsHead tree task s) where
   abbrev y : Taking
   y = taking_of tree task
 
-  not_child : (a b : Term) (p : ℕ) (c : Colour) → IsPair tree task a b ⊎ IsPiece m task s a b → a ≡ place.Child p c → ⊥
+  not_child : (a b : Term) (p : ℕ) (c : Colour) → IsPair tree task a b ⊎ IsPiece task s a b → a ≡ place.Child p c → ⊥
   not_child a b p c (inl d) e = subst IsName (sym d.is_lower ∙ e) tt
   not_child a b p c (inr d) e = subst IsName (sym d.is_lower ∙ e) tt
 
@@ -133,7 +132,7 @@ module _ {m : Marked} (tree : Tree) (task : TaskTree) (s : Scope) (head : KnowsH
   over_told : (p r : ℕ) (c : Colour) (d : Bool) → Contains s.known (PartOf p r d) → Over p c (place.Name r)
   over_told p r c d k = over_whole r d (place.Name r) k (lands_name r (up_itself r))
 
-  told_reach : (a b : Term) → IsPair tree task a b ⊎ IsPiece m task s a b → Reach a b
+  told_reach : (a b : Term) → IsPair tree task a b ⊎ IsPiece task s a b → Reach a b
   told_reach a b (inl p) =
       let ps = pairs_in (scope_of tree task).known in
       subst (λ a. Reach a b) (sym p.is_lower) (subst (Lands p.lower) (sym p.is_upper) (lands_pair p.lower p.upper (up_itself p.lower) (

@@ -1,6 +1,5 @@
 -- What is known from place to place of a task's body: behind a place nothing more is known but what is new there.
 use Rattle.std.proofs.Common.{◌≡◌, Bool, List, [], ◌∷◌, ◌++◌, None, Some, false, true, refl, ap, sym, subst, ℕ, ◌≤◌, ◌∙◌, cond, arith, ◌⊎◌, inl, inr, ⊎_elim, Option}
-use Rattle.std.specs.List.{Contains}
 use Rattle.std.proofs.lemmas.Bool.{eq-eqb, ne_eqb}
 use Rattle.std.proofs.lemmas.List.{append-nil}
 use Rattle.regent_tree.proofs.Members.{Contains-from_Has, Has, Has-append_cases, Has-append_left, Has-append_right, Has-from_Contains}
@@ -12,7 +11,6 @@ use Rattle.regent_tree.specs.declared.facts.Known.TheVariants.{Apart, Made, Part
 use Rattle.regent_tree.specs.declared.facts.Term.{Term}
 use Rattle.regent_tree.specs.declared.facts.Term.TheVariants as place
 use Rattle.regent_tree.specs.declared.typing.StaticType.{StaticType}
-use Rattle.local_form.specs.LocalForm.{Marked}
 use Rattle.code_laws.specs.Above.{cut_told, first_told, or_other, piece_told, whole_told}
 use Rattle.code_laws.proofs.Told.{IsBehind, cut_behind, piece_none, told_left, told_none, told_right}
 use Rattle.check_laws.specs.SoundScopes.{Falls}
@@ -35,7 +33,7 @@ told_behind s u more known less names (PartOf p r d) told =
     }
 
 -- so is what began as a part, and what was made
-piece_behind : {m : Marked} {task : TaskTree} {a b : Term} (s u : Scope) (more : List Known) → u.known ≡ s.known ++ more → s.next ≤ u.next → IsPiece m task s a b → IsPiece m task u a b
+piece_behind : {task : TaskTree} {a b : Term} (s u : Scope) (more : List Known) → u.known ≡ s.known ++ more → s.next ≤ u.next → IsPiece task s a b → IsPiece task u a b
 piece_behind s u more known less p = let low = p.low in record {
   own = p.own;
   cut = p.cut;
@@ -58,10 +56,10 @@ made_behind s u more i known less behind made = let low = made.low in record {
 }
 
 -- nothing is told yet of the next number
-cut_none : {m : Marked} {tree : Tree} {task : TaskTree} {s : Scope} → KnowsFacts m tree task s → first_told (cut_told s.next) s.known ≡ None
-cut_none {m = m} {tree = tree} {task = task} {s = s} h = told_none (cut_told s.next) s.known (λ k c. by k c)
+cut_none : {tree : Tree} {task : TaskTree} {s : Scope} → KnowsFacts tree task s → first_told (cut_told s.next) s.known ≡ None
+cut_none {tree = tree} {task = task} {s = s} h = told_none (cut_told s.next) s.known (λ k c. by k c)
   where
-    by_name : (a : ℕ) (b : Term) → IsPair tree task (place.Name a) b ⊎ IsPiece m task s (place.Name a) b → cut_told s.next (Within (place.Name a) b) ≡ None
+    by_name : (a : ℕ) (b : Term) → IsPair tree task (place.Name a) b ⊎ IsPiece task s (place.Name a) b → cut_told s.next (Within (place.Name a) b) ≡ None
     by_name a (place.Name c) p = refl
     by_name a (place.Child q c) (inl p) = absurd (subst IsName (sym p.is_upper) tt)
     by_name a (place.Child q c) (inr p) =
@@ -75,7 +73,7 @@ cut_none {m = m} {tree = tree} {task = task} {s = s} h = told_none (cut_told s.n
     by (PartOf p r d) c = refl
     by (Made i) c = refl
 
-whole_none : {m : Marked} {tree : Tree} {task : TaskTree} {s : Scope} → KnowsFacts m tree task s → first_told (whole_told s.next) s.known ≡ None
+whole_none : {tree : Tree} {task : TaskTree} {s : Scope} → KnowsFacts tree task s → first_told (whole_told s.next) s.known ≡ None
 whole_none {s = s} h = told_none (whole_told s.next) s.known (λ k c. by k c)
   where
     by : (k : Known) → Has s.known k → whole_told s.next k ≡ None
@@ -85,31 +83,31 @@ whole_none {s = s} h = told_none (whole_told s.next) s.known (λ k c. by k c)
     by (Made i) c = refl
 
 -- a fact that is new at a place
-abbrev IsNew : Marked → TaskTree → Scope → ℕ → Known → Type 0
-IsNew m task u own (Within a b) = (a ≡ place.Name own) × IsPiece m task u a b
-IsNew m task u own (Apart a b) = Unit {0}
-IsNew m task u own (PartOf p r d) = (p ≡ own) × IsPartHere u p r d
-IsNew m task u own (Made i) = IsMadeHere task u i
+abbrev IsNew : TaskTree → Scope → ℕ → Known → Type 0
+IsNew task u own (Within a b) = (a ≡ place.Name own) × IsPiece task u a b
+IsNew task u own (Apart a b) = Unit {0}
+IsNew task u own (PartOf p r d) = (p ≡ own) × IsPartHere u p r d
+IsNew task u own (Made i) = IsMadeHere task u i
 
-new_behind : (m : Marked) (task : TaskTree) (u : Scope) (own : ℕ) (k : Known) → IsNew m task u own k → IsBehind own k
-new_behind m task u own (Within a b) n = subst (λ a. IsBehind own (Within a b)) (sym n.0) (omega arith)
-new_behind m task u own (Apart a b) n = tt
-new_behind m task u own (PartOf p r d) n = let same = n.0 in omega (arith, same)
-new_behind m task u own (Made i) n = tt
+new_behind : (task : TaskTree) (u : Scope) (own : ℕ) (k : Known) → IsNew task u own k → IsBehind own k
+new_behind task u own (Within a b) n = subst (λ a. IsBehind own (Within a b)) (sym n.0) (omega arith)
+new_behind task u own (Apart a b) n = tt
+new_behind task u own (PartOf p r d) n = let same = n.0 in omega (arith, same)
+new_behind task u own (Made i) n = tt
 
 -- a name that is new there: what its type tells is known
 abbrev IsNext : Scope → ℕ → Bound → Type 0
 IsNext u own b = (b.number ≡ own) × ((k : Known) → Has (known_of_type b.static_type) k → Has u.known k)
 
 -- behind a place nothing more is known but what is new there
-head_behind : {m : Marked} (tree : Tree) (task : TaskTree) (s u : Scope) (more : List Known) → KnowsFacts m tree task s → u.known ≡ s.known ++ more → s.next ≤ u.next →
-    ((b : Bound) → Has u.names b → Has s.names b ⊎ IsNext u s.next b) → ((k : Known) → Has more k → IsNew m task u s.next k) → KnowsFacts m tree task u
-head_behind {m = m} tree task s u more h known less names new = record {
+head_behind : (tree : Tree) (task : TaskTree) (s u : Scope) (more : List Known) → KnowsFacts tree task s → u.known ≡ s.known ++ more → s.next ≤ u.next →
+    ((b : Bound) → Has u.names b → Has s.names b ⊎ IsNext u s.next b) → ((k : Known) → Has more k → IsNew task u s.next k) → KnowsFacts tree task u
+head_behind tree task s u more h known less names new = record {
   within = λ a b c. ⊎_elim
       (λ old. ⊎_elim (λ p. inl p) (λ p. inr (piece_behind s u more known less p)) (h.within a b (Contains-from_Has s.known (Within a b) old)))
       (λ n. inr (new (Within a b) n).1) (cases (Within a b) (Has-from_Contains u.known (Within a b) c));
   made = λ i c. ⊎_elim
-      (λ old. made_behind s u more i known less (λ k d. new_behind m task u s.next k (new k d)) (h.made i (Contains-from_Has s.known (Made i) old)))
+      (λ old. made_behind s u more i known less (λ k d. new_behind task u s.next k (new k d)) (h.made i (Contains-from_Has s.known (Made i) old)))
       (λ n. new (Made i) n) (cases (Made i) (Has-from_Contains u.known (Made i) c));
   parts = λ k c. ⊎_elim (λ old. told_behind s u more known less (λ b d. ⊎_elim (λ old. inl old) (λ own. inr own.0) (names b d)) k (h.parts k old)) (λ n. by_kind k (new k n)) (cases k c);
   cuts = λ b d k g. ⊎_elim (λ old. subst (λ ks. Has ks k) (sym known) (Has-append_left s.known more k (h.cuts b old k g))) (λ own. own.1 k g) (names b d);
@@ -119,7 +117,7 @@ head_behind {m = m} tree task s u more h known less names new = record {
     cases : (k : Known) → Has u.known k → Has s.known k ⊎ Has more k
     cases k c = Has-append_cases s.known more k (subst (λ ks. Has ks k) known c)
 
-    by_kind : (k : Known) → IsNew m task u s.next k → IsToldHere u k
+    by_kind : (k : Known) → IsNew task u s.next k → IsToldHere u k
     by_kind (Within a b) n = tt
     by_kind (Apart a b) n = tt
     by_kind (Made i) n = tt
@@ -132,9 +130,9 @@ told_past s inner names (Apart a b) told = tt
 told_past s inner names (Made i) told = tt
 told_past s inner names (PartOf p r d) told = record { low = told.low; one = λ b h e. told.one b (names b h) e; told = told.told }
 
-pub head_past : {m : Marked} (tree : Tree) (task : TaskTree) (s inner : Scope) → ((b : Bound) → Has s.names b → Has inner.names b) → KnowsFacts m tree task inner →
-    KnowsFacts m tree task (past s inner)
-head_past {m = m} tree task s inner names h = record {
+pub head_past : (tree : Tree) (task : TaskTree) (s inner : Scope) → ((b : Bound) → Has s.names b → Has inner.names b) → KnowsFacts tree task inner →
+    KnowsFacts tree task (past s inner)
+head_past tree task s inner names h = record {
   within = λ a b c. ⊎_elim (λ p. inl p) (λ p. inr (piece_past a b p)) (h.within a b c);
   made = λ i c. let d = h.made i c in record { high = d.high; low = d.low; whole = d.whole };
   parts = λ k c. told_past s inner names k (h.parts k c);
@@ -142,7 +140,7 @@ head_past {m = m} tree task s inner names h = record {
   next = h.next;
 }
   where
-    piece_past : (a b : Term) → IsPiece m task inner a b → IsPiece m task (past s inner) a b
+    piece_past : (a b : Term) → IsPiece task inner a b → IsPiece task (past s inner) a b
     piece_past a b p =
         record { own = p.own; cut = p.cut; colour = p.colour; is_lower = p.is_lower; is_upper = p.is_upper; high = p.high; low = p.low; told = p.told; piece = p.piece }
 
@@ -158,21 +156,21 @@ nothing_told : (s u : Scope) (n : Name) (t : StaticType) (by_loop : Bool) → kn
     Has s.names b ⊎ IsNext u s.next b
 nothing_told s u n t by_loop none = one_more s u n t by_loop (λ k g. absurd (subst (λ ks. Has ks k) none g))
 
-pub head_looping : {m : Marked} (tree : Tree) (task : TaskTree) (s : Scope) (n : Name) (t : StaticType) → known_of_type t ≡ [] → KnowsFacts m tree task s → KnowsFacts m tree task (with_name s n t true)
+pub head_looping : (tree : Tree) (task : TaskTree) (s : Scope) (n : Name) (t : StaticType) → known_of_type t ≡ [] → KnowsFacts tree task s → KnowsFacts tree task (with_name s n t true)
 head_looping tree task s n t none h =
     head_behind tree task s (with_name s n t true) [] h (sym (append-nil s.known)) (omega (arith)) (nothing_told s (with_name s n t true) n t true none) (λ k a. absurd a)
 
 -- one more name, with which nothing is known, or that a region was made
-pub head_named : {m : Marked} (tree : Tree) (task : TaskTree) (s : Scope) (n : Name) (t : StaticType) (more : List Known) → known_of_type t ≡ [] → KnowsFacts m tree task s → more ≡ [] →
-    KnowsFacts m tree task (knowing (with_name s n t false) more)
+pub head_named : (tree : Tree) (task : TaskTree) (s : Scope) (n : Name) (t : StaticType) (more : List Known) → known_of_type t ≡ [] → KnowsFacts tree task s → more ≡ [] →
+    KnowsFacts tree task (knowing (with_name s n t false) more)
 head_named tree task s n t more own h none = head_behind tree task s (knowing (with_name s n t false) more) more h refl (omega (arith))
     (nothing_told s (knowing (with_name s n t false) more) n t false own)
     (λ k a. absurd (subst (λ ks. Has ks k) none a))
 
-pub head_made : {m : Marked} (tree : Tree) (task : TaskTree) (s : Scope) (n : Name) (t : StaticType) → known_of_type t ≡ [] → KnowsFacts m tree task s →
-    KnowsFacts m tree task (knowing (with_name s n t false) (Made s.next ∷ []))
-head_made {m = m} tree task s n t none h = head_behind tree task s u (Made s.next ∷ []) h refl (omega (arith)) (nothing_told s u n t false none)
-    (λ k a. ⊎_elim (λ same. subst (IsNew m task u s.next) same own) (λ none. absurd none) a)
+pub head_made : (tree : Tree) (task : TaskTree) (s : Scope) (n : Name) (t : StaticType) → known_of_type t ≡ [] → KnowsFacts tree task s →
+    KnowsFacts tree task (knowing (with_name s n t false) (Made s.next ∷ []))
+head_made tree task s n t none h = head_behind tree task s u (Made s.next ∷ []) h refl (omega (arith)) (nothing_told s u n t false none)
+    (λ k a. ⊎_elim (λ same. subst (IsNew task u s.next) same own) (λ none. absurd none) a)
   where
     u : Scope
     u = knowing (with_name s n t false) (Made s.next ∷ [])
@@ -181,10 +179,10 @@ head_made {m = m} tree task s n t none h = head_behind tree task s u (Made s.nex
     own = record { high = h.next; low = omega (arith); whole = told_right (cut_told s.next) s.known (Made s.next ∷ []) (cut_none h) }
 
 -- or one that begins as a part
-pub head_piece : {m : Marked} (tree : Tree) (task : TaskTree) (s : Scope) (n : Name) (t : StaticType) (p : ℕ) (c : Colour) → known_of_type t ≡ [] → KnowsFacts m tree task s →
-    KnowsFacts m tree task (knowing (with_name s n t false) (Within (place.Name s.next) (place.Child p c) ∷ []))
-head_piece {m = m} tree task s n t p c none h = head_behind tree task s u more h refl (omega (arith)) (nothing_told s u n t false none)
-    (λ k a. ⊎_elim (λ same. subst (IsNew m task u s.next) same (refl, own)) (λ none. absurd none) a)
+pub head_piece : (tree : Tree) (task : TaskTree) (s : Scope) (n : Name) (t : StaticType) (p : ℕ) (c : Colour) → known_of_type t ≡ [] → KnowsFacts tree task s →
+    KnowsFacts tree task (knowing (with_name s n t false) (Within (place.Name s.next) (place.Child p c) ∷ []))
+head_piece tree task s n t p c none h = head_behind tree task s u more h refl (omega (arith)) (nothing_told s u n t false none)
+    (λ k a. ⊎_elim (λ same. subst (IsNew task u s.next) same (refl, own)) (λ none. absurd none) a)
   where
     more : List Known
     more = Within (place.Name s.next) (place.Child p c) ∷ []
@@ -192,7 +190,7 @@ head_piece {m = m} tree task s n t p c none h = head_behind tree task s u more h
     u : Scope
     u = knowing (with_name s n t false) more
 
-    own : IsPiece m task u (place.Name s.next) (place.Child p c)
+    own : IsPiece task u (place.Name s.next) (place.Child p c)
     own = record {
       own = s.next;
       cut = p;
@@ -207,11 +205,11 @@ head_piece {m = m} tree task s n t p c none h = head_behind tree task s u more h
     }
 
 -- or one of a partition, of which is known of which region it is
-pub head_cut : {m : Marked} (tree : Tree) (task : TaskTree) (s : Scope) (n : Name) (d : Bool) (r : ℕ) → Falls s.next s.names → KnowsFacts m tree task s →
-    KnowsFacts m tree task (knowing (with_name s n (partition_type d r s.next) false) (PartOf s.next r d ∷ []))
-head_cut {m = m} tree task s n d r falls h = head_behind tree task s u (PartOf s.next r d ∷ []) h refl (omega (arith))
+pub head_cut : (tree : Tree) (task : TaskTree) (s : Scope) (n : Name) (d : Bool) (r : ℕ) → Falls s.next s.names → KnowsFacts tree task s →
+    KnowsFacts tree task (knowing (with_name s n (partition_type d r s.next) false) (PartOf s.next r d ∷ []))
+head_cut tree task s n d r falls h = head_behind tree task s u (PartOf s.next r d ∷ []) h refl (omega (arith))
     (one_more s u n t false (λ k g. Has-append_right s.known (PartOf s.next r d ∷ []) k g))
-    (λ k a. ⊎_elim (λ same. subst (IsNew m task u s.next) same (refl, own)) (λ none. absurd none) a)
+    (λ k a. ⊎_elim (λ same. subst (IsNew task u s.next) same (refl, own)) (λ none. absurd none) a)
   where
     t : StaticType
     t = partition_type d r s.next

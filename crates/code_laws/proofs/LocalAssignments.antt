@@ -1,7 +1,7 @@
--- Assignments in a text with marked names, of which no breach is told, are typed.
-use Rattle.std.proofs.Common.{◌≡◌, Bool, [], None, false, true, ap, subst, sym, ℕ, ◌∙◌, not, ◌||◌, inl, inr, ⊎_elim}
+-- Assignments of which no breach is told are typed.
+use Rattle.std.proofs.Common.{◌≡◌, [], None, false, true, ap, subst, sym, ℕ, ◌∙◌, not, ◌||◌, inl, refl}
 use Rattle.std.specs.Prelude.{cond, length, nat_lt}
-use Rattle.std.proofs.lemmas.Bool.{and_parts, not-false, or_parts}
+use Rattle.std.proofs.lemmas.Bool.{not-false, or_parts}
 use Rattle.plain_values.proofs.Plain.{option_or_parts}
 use Rattle.lane_kernels.specs.declared.numbers.Op.{Op}
 use Rattle.regent_tree.specs.Accesses.{space_in}
@@ -34,106 +34,104 @@ use Rattle.check_rules.specs.types.Params.{type_unless}
 use Rattle.check_rules.specs.types.Sorts.{is_collection, is_integer, is_space, may_be}
 use Rattle.check_rules.specs.types.TypedForms.{element_of, field_of}
 use Rattle.code_rules.specs.Slots.{Where}
-use Rattle.local_form.specs.LocalForm.{Marked, is_among, is_kept_apart, is_local_expression, is_local_form, takes_value, is_local_result}
-use Rattle.code_laws.specs.Handing.{forms_by, takes_by}
+use Rattle.code_laws.specs.WrittenForms.{is_written_expression, is_written_form}
+use Rattle.code_laws.specs.Handing.{forms_by}
 use Rattle.code_laws.specs.Simple.{IsPartition, a_partition_type}
 use Rattle.code_laws.specs.Steps.{Forms}
 use Rattle.code_laws.specs.Typed.{GoesThrough, IsTyped, IsTypedForm, MayTouch, element_field, IsBehind, IsFieldOf, MayGo, field_behind}
 use Rattle.code_laws.proofs.KnownHeads.{IsReady}
 use Rattle.code_laws.proofs.LocalPoints.{at_point, behind_name, gone, is_behind, touched}
-use Rattle.code_laws.proofs.LocalValues.{value_assigned, value_integer}
+use Rattle.code_laws.proofs.LocalValues.{value_assigned, IsValue}
 use Rattle.code_laws.specs.Pointers.{CountsAs}
 use Rattle.code_laws.proofs.Privileges.{mode_in}
-use Rattle.code_laws.proofs.LocalFields.{IsHeld, fields_of, held_assigned, held_integer}
-use Rattle.code_laws.proofs.LocalNames.{kept_integer, IsLocalTree, kept_as_value, named_kept, value_kept}
+use Rattle.code_laws.proofs.LocalFields.{IsHeld, held_assigned, held_integer, collected_held}
+use Rattle.code_laws.proofs.LocalNames.{kept_integer, IsLocalTree, named_kept, IsKept, kept_partition, kept_region, kept_value}
 use Rattle.code_laws.proofs.LocalPlaces.{named_place, taking_told}
 use Rattle.code_laws.proofs.LocalParts.{and_then}
-use Rattle.code_laws.proofs.LocalTypes.{either}
 use Rattle.code_laws.proofs.TypedStatements.{first_stands, told_later, told_privileges}
 use Rattle.code_laws.proofs.Typing.{AreKept, no_way}
 use Rattle.code_laws.proofs.Wider.{assigned}
-use Rattle.code_laws.proofs.LocalVariables.{at, headed, stands_as}
 use Rattle.regent_tree.specs.declared.typing.StaticType.{StaticType}
-use Rattle.code_laws.specs.Taking.{MayChange}
+use Rattle.check_rules.specs.types.Declarations.{is_no_result_type}
+use Rattle.code_laws.proofs.LocalVariables.{at, headed, integer_head, stands_as, valued}
+use Rattle.code_laws.proofs.LocalTaken.{collected_value}
+use Rattle.code_laws.proofs.LocalArguments.{placed}
 
-may_change : (handing : Bool) (tree : Tree) (task : TaskTree) (by_loop : Bool) → by_loop ≡ false → MayChange (takes_by handing tree task) by_loop
-may_change false tree task by_loop e = tt
-may_change true tree task by_loop e = e
-
-module _ (handing keeping : Bool) (tree : Tree) (task : TaskTree) (sound : IsSound tree) (sound_task : IsSoundTask tree task) (m : Marked)
-    (local : IsLocalTree handing keeping m tree) (params : ℕ) (result : is_local_result task.result ≡ true) where
+module _ (tree : Tree) (task : TaskTree) (sound : IsSound tree) (sound_task : IsSoundTask tree task)
+    (local : IsLocalTree tree) (params : ℕ) (result : is_no_result_type task.result ≡ false) where
   abbrev forms : Forms
-  forms = forms_by handing keeping tree task
+  forms = forms_by true true tree task
 
   abbrev Ready : Scope → Type 0
-  Ready s = IsReady keeping tree task m s
+  Ready s = IsReady tree task s
 
   abbrev here : Scope → ℕ → Where
-  here s line = at handing keeping tree task sound sound_task m local params result s line
+  here s line = at tree task sound sound_task local params result s line
 
-  pub set_local : (s : Scope) (line : ℕ) (n : Name) (y : Expression) → is_local_form m (assign_form n no_step how.Set y) ≡ true → AreKept (parts_of_expression y) →
+  -- what is no region and no partition is a value
+  changed_value : (s : Scope) (i : ℕ) (u : StaticType) → IsKept true s.names i u → is_collection u ≡ false → IsValue true s.names u
+  changed_value s i u (kept_value _ a) e = a
+  changed_value s i _ (kept_region k sp args) e = absurd (no_way e)
+  changed_value s i _ (kept_partition d r q a) e = absurd (no_way e)
+
+  pub set_local : (s : Scope) (line : ℕ) (n : Name) (y : Expression) → is_written_form (assign_form n no_step how.Set y) ≡ true → AreKept (parts_of_expression y) →
       IsSoundScope s → Ready s → first_of_form tree task s (assign_form n no_step how.Set y) ≡ None →
       IsTypedForm forms (here s line) (assign_form n no_step how.Set y)
   set_local s line n y lo k scope names e =
       let form = assign_form n no_step how.Set y in
-      let both = and_parts (takes_value m n) (is_local_expression m y) lo in
-      let takes = and_parts (m.keeps || not (is_among m.indices n)) (not (is_kept_apart m n)) both.0 in
       let parts = told_of_form tree task s sound scope form e in
       let told = (option_or_parts (first_in_expression tree task s y) _ parts.2).0 in
-      let a = headed handing keeping tree task sound sound_task m local params result s line y both.1 k scope names told in
       let target = option_or_parts (rule_if (not (is_bound s.names n)) rule.Name) _ (target_of_form tree task s sound scope form e) in
       let there = not-false (is_bound s.names n) (rule_none (not (is_bound s.names n)) rule.Name target.0) in
       let u = (bound_to s.names n).static_type in
       let i = (bound_to s.names n).number in
-      let kept = named_kept keeping m s.names n names.names there in
-      let value = kept_as_value keeping m s.names n i u kept takes.1 in
-      let kind = ⊎_elim (λ q. inl (local.keeps q)) (λ q. inr (value_kept keeping m s.names n i u kept q value))
-      (either m.keeps (not (is_among m.indices n)) takes.0) in
       let spot = ap (λ b. typed_spot (cond b unknown_type u)) (told_later tree task s form e).0 in
-      let fit = stands_as handing keeping tree task sound sound_task m local params result s y (typed_spot u) scope told (subst (λ p. may_stand s.known (stands (known_type tree s y) p) ≡ true) spot
+      let fit = stands_as tree task sound sound_task local params result s y (typed_spot u) scope told (subst (λ p. may_stand s.known (stands (known_type tree s y) p) ≡ true) spot
       (first_stands s.known (stands (known_type tree s y) (spot_of_target (mistargets task s.names n no_step how.Set u) how.Set u)) [] parts.4).0) in
       let free = and_then (is_bound s.names n) (is_fixed task (bound_to s.names n)) there
       (or_parts (is_no_target task s.names n no_step u) (is_no_integer how.Set u) (told_later tree task s form e).0).0 in
       let kinds = or_parts ((bound_to s.names n).by_loop || nat_lt (bound_to s.names n).number (length task.params)) (is_collection u) free in
       let loop = (or_parts (bound_to s.names n).by_loop (nat_lt (bound_to s.names n).number (length task.params)) kinds.0).0 in
-      (value_assigned keeping s.names s.known (type_of tree s y) u a.value value kind kinds.1 fit, a.is, there, may_change handing tree task (bound_to s.names n).by_loop loop)
+      let value = changed_value s i u (named_kept true s.names n names.names there) kinds.1 in
+      let a = valued tree task sound sound_task local params result s line y lo k scope names told
+      (λ c. collected_value true s.names s.known (type_of tree s y) u c value fit) in
+      (value_assigned true s.names s.known (type_of tree s y) u a.value value (inl refl) kinds.1 fit, a.is, there, loop)
 
-  pub reduce_local : (s : Scope) (line : ℕ) (n : Name) (o : Op) (y : Expression) → is_local_expression m y ≡ true → AreKept (parts_of_expression y) →
+  pub reduce_local : (s : Scope) (line : ℕ) (n : Name) (o : Op) (y : Expression) → is_written_expression y ≡ true → AreKept (parts_of_expression y) →
       IsSoundScope s → Ready s → first_of_form tree task s (assign_form n no_step (how.Reduce o) y) ≡ None →
       IsTypedForm forms (here s line) (assign_form n no_step (how.Reduce o) y)
   reduce_local s line n o y lo k scope names e =
       let form = assign_form n no_step (how.Reduce o) y in
       let parts = told_of_form tree task s sound scope form e in
       let told = (option_or_parts (first_in_expression tree task s y) _ parts.2).0 in
-      let a = headed handing keeping tree task sound sound_task m local params result s line y lo k scope names told in
       let target = option_or_parts (rule_if (not (is_bound s.names n)) rule.Name) _ (target_of_form tree task s sound scope form e) in
       let there = not-false (is_bound s.names n) (rule_none (not (is_bound s.names n)) rule.Name target.0) in
       let u = (bound_to s.names n).static_type in
       let whole = or_parts (is_no_target task s.names n no_step u) (not (may_be is_integer u)) (told_later tree task s form e).0 in
       let free = and_then (is_bound s.names n) (is_fixed task (bound_to s.names n)) there whole.0 in
       let kinds = or_parts ((bound_to s.names n).by_loop || nat_lt (bound_to s.names n).number (length task.params)) (is_collection u) free in
-      let may = stands_as handing keeping tree task sound sound_task m local params result s y integer_spot scope told (first_stands s.known (stands (known_type tree s y) integer_spot) [] parts.4).0 in (
-        value_integer keeping s.names (type_of tree s y) a.value may,
-        kept_integer keeping m s.names n (bound_to s.names n).number u (named_kept keeping m s.names n names.names there)
+      let a = integer_head tree task sound sound_task local params result s line y lo k scope names told (first_stands s.known (stands (known_type tree s y) integer_spot) [] parts.4).0 in (
+        a.0,
+        kept_integer true s.names (bound_to s.names n).number u (named_kept true s.names n names.names there)
             (not-false (may_be is_integer u) whole.1),
-        a.is,
+        a.1,
         there,
-        may_change handing tree task (bound_to s.names n).by_loop (or_parts (bound_to s.names n).by_loop (nat_lt (bound_to s.names n).number (length task.params)) kinds.0).0,
+        (or_parts (bound_to s.names n).by_loop (nat_lt (bound_to s.names n).number (length task.params)) kinds.0).0,
       )
 
   -- a target at a point of a region: its parts are typed, and its type is known
   record IsTarget (s : Scope) (line : ℕ) (n : Name) (e : Expression) (f : Name) : Type 0 where
     index : IsTyped forms (here s line) e
-    number : CountsAs keeping (type_of tree s e)
+    number : CountsAs true (type_of tree s e)
     through : GoesThrough (here s line) n e
-    field : IsFieldOf keeping (here s line) n f (element_field (here s line) n e f)
-    held : IsHeld keeping (fields_of m) f (field_term tree (space_in (bound_to s.names n).static_type) (field_place tree (space_in (bound_to s.names n).static_type) f))
+    field : IsFieldOf true (here s line) n f (element_field (here s line) n e f)
+    held : IsHeld true (field_term tree (space_in (bound_to s.names n).static_type) (field_place tree (space_in (bound_to s.names n).static_type) f))
         (element_field (here s line) n e f)
     known : known_type tree s (access_expr n (at_step e (field_step f no_step))) ≡ element_field (here s line) n e f
     may : (a : Access) → lacks tree task s (wanted_of_step tree a (field_of (known_type_after_step tree (element_of (bound_to s.names n).static_type (known_type tree s e)) (type_of_element s (bound_to s.names n).static_type e)) f)) ≡ false →
         MayTouch forms (here s line) n (field_place tree (space_in (bound_to s.names n).static_type) f) (mode_in a)
 
-  target_local : (s : Scope) (line : ℕ) (n : Name) (e : Expression) (f : Name) → is_local_expression m e ≡ true → AreKept (parts_of_expression e) →
+  target_local : (s : Scope) (line : ℕ) (n : Name) (e : Expression) (f : Name) → is_written_expression e ≡ true → AreKept (parts_of_expression e) →
       IsSoundScope s → Ready s → first_in_target tree task s n (at_step e (field_step f no_step)) ≡ None → IsTarget s line n e f
   target_local s line n e f lo k scope names none =
       let w = here s line in
@@ -143,19 +141,21 @@ module _ (handing keeping : Bool) (tree : Tree) (task : TaskTree) (sound : IsSou
       let index = option_or_parts (first_in_expression tree task s e) _ told.1 in
       let taking = element_of t (known_type tree s e) in
       let step = option_or_parts (first_of_step tree task s taking) _ index.1 in
-      let a = headed handing keeping tree task sound sound_task m local params result s line e lo k scope names index.0 in
-      let p = at_point handing keeping task w sound sound_task m local scope names.names names.head n e f there index.0 a (option_or_parts (first_of_taking tree taking) _ step.0).0 step.1 in
-      let is = named_place handing keeping w sound m local n e f scope there p.place in record {
-        index = a.is;
+      let first = (option_or_parts (first_of_taking tree taking) _ step.0).0 in
+      let a = placed task w sound sound_task local scope names.names names.head t e
+      (headed tree task sound sound_task local params result s line e lo k scope names index.0) index.0 first in
+      let p = at_point task w sound sound_task local scope names.names names.head n e f there index.0 a first step.1 in
+      let is = named_place w sound local n e f scope there p.place in record {
+        index = a.well.is;
         number = p.number;
         through = is.0;
         field = is.1;
         held = p.place.held;
         known = ap (λ q. known_type_after_step tree (field_of q f) (type_of_field tree q f)) p.element ∙ p.place.known;
-        may = λ a lacking. touched handing keeping task w sound sound_task m local scope names.names names.head n e f a there p lacking;
+        may = λ a lacking. touched task w sound sound_task local scope names.names names.head n e f a there p lacking;
       }
 
-  pub set_field_local : (s : Scope) (line : ℕ) (n : Name) (e : Expression) (f : Name) (y : Expression) → is_local_expression m e ≡ true → is_local_expression m y ≡ true →
+  pub set_field_local : (s : Scope) (line : ℕ) (n : Name) (e : Expression) (f : Name) (y : Expression) → is_written_expression e ≡ true → is_written_expression y ≡ true →
       AreKept (parts_of_expression e) → AreKept (parts_of_expression y) → IsSoundScope s → Ready s →
       first_of_form tree task s (assign_form n (at_step e (field_step f no_step)) how.Set y) ≡ None →
       IsTypedForm forms (here s line) (assign_form n (at_step e (field_step f no_step)) how.Set y)
@@ -164,13 +164,14 @@ module _ (handing keeping : Bool) (tree : Tree) (task : TaskTree) (sound : IsSou
       let form = assign_form n steps how.Set y in
       let parts = told_of_form tree task s sound scope form none in
       let told = (option_or_parts (first_in_expression tree task s y) _ parts.2).0 in
-      let a = headed handing keeping tree task sound sound_task m local params result s line y lo k scope names told in
       let target = target_local s line n e f lo_e k_e scope names (target_of_form tree task s sound scope form none) in
       let u = known_type tree s (access_expr n steps) in
       let spot = ap (λ b. typed_spot (cond b unknown_type u)) (told_later tree task s form none).0 ∙ ap typed_spot target.known in
-      let fit = stands_as handing keeping tree task sound sound_task m local params result s y (typed_spot (element_field (here s line) n e f)) scope told (subst (λ p. may_stand s.known (stands (known_type tree s y) p) ≡ true) spot
-      (first_stands s.known (stands (known_type tree s y) (spot_of_target (mistargets task s.names n steps how.Set u) how.Set u)) [] parts.4).0) in (
-        held_assigned keeping (fields_of m) f s.names s.known (type_of tree s y) _ (element_field (here s line) n e f) a.value target.held fit,
+      let fit = stands_as tree task sound sound_task local params result s y (typed_spot (element_field (here s line) n e f)) scope told (subst (λ p. may_stand s.known (stands (known_type tree s y) p) ≡ true) spot
+      (first_stands s.known (stands (known_type tree s y) (spot_of_target (mistargets task s.names n steps how.Set u) how.Set u)) [] parts.4).0) in
+      let a = valued tree task sound sound_task local params result s line y lo k scope names told
+      (λ c. collected_held true s.known (type_of tree s y) _ (element_field (here s line) n e f) c target.held fit) in (
+        held_assigned true s.names s.known (type_of tree s y) _ (element_field (here s line) n e f) a.value target.held fit,
         a.is,
         target.index,
         target.number,
@@ -179,8 +180,8 @@ module _ (handing keeping : Bool) (tree : Tree) (task : TaskTree) (sound : IsSou
         target.may access.Write (told_privileges tree task s form none).0,
       )
 
-  pub reduce_field_local : (s : Scope) (line : ℕ) (n : Name) (e : Expression) (f : Name) (o : Op) (y : Expression) → is_local_expression m e ≡ true →
-      is_local_expression m y ≡ true → AreKept (parts_of_expression e) → AreKept (parts_of_expression y) → IsSoundScope s → Ready s →
+  pub reduce_field_local : (s : Scope) (line : ℕ) (n : Name) (e : Expression) (f : Name) (o : Op) (y : Expression) → is_written_expression e ≡ true →
+      is_written_expression y ≡ true → AreKept (parts_of_expression e) → AreKept (parts_of_expression y) → IsSoundScope s → Ready s →
       first_of_form tree task s (assign_form n (at_step e (field_step f no_step)) (how.Reduce o) y) ≡ None →
       IsTypedForm forms (here s line) (assign_form n (at_step e (field_step f no_step)) (how.Reduce o) y)
   reduce_field_local s line n e f o y lo_e lo k_e k scope names none =
@@ -188,15 +189,14 @@ module _ (handing keeping : Bool) (tree : Tree) (task : TaskTree) (sound : IsSou
       let form = assign_form n steps (how.Reduce o) y in
       let parts = told_of_form tree task s sound scope form none in
       let told = (option_or_parts (first_in_expression tree task s y) _ parts.2).0 in
-      let a = headed handing keeping tree task sound sound_task m local params result s line y lo k scope names told in
       let target = target_local s line n e f lo_e k_e scope names (target_of_form tree task s sound scope form none) in
       let u = known_type tree s (access_expr n steps) in
       let whole = subst (λ v. may_be is_integer v ≡ true) target.known
       (not-false (may_be is_integer u) (or_parts (is_no_target task s.names n steps u) (not (may_be is_integer u)) (told_later tree task s form none).0).1) in
-      let may = stands_as handing keeping tree task sound sound_task m local params result s y integer_spot scope told (first_stands s.known (stands (known_type tree s y) integer_spot) [] parts.4).0 in (
-        value_integer keeping s.names (type_of tree s y) a.value may,
-        held_integer keeping (fields_of m) f _ (element_field (here s line) n e f) target.held whole,
-        a.is,
+      let a = integer_head tree task sound sound_task local params result s line y lo k scope names told (first_stands s.known (stands (known_type tree s y) integer_spot) [] parts.4).0 in (
+        a.0,
+        held_integer true _ (element_field (here s line) n e f) target.held whole,
+        a.1,
         target.index,
         target.number,
         target.through,
@@ -206,9 +206,9 @@ module _ (handing keeping : Bool) (tree : Tree) (task : TaskTree) (sound : IsSou
 
   -- a target that a name's pointer goes to
   record IsTargetBehind (s : Scope) (line : ℕ) (n f : Name) : Type 0 where
-    keeps : keeping ≡ true
+    keeps : true ≡ true
     behind : IsBehind (here s line) n f (field_behind (here s line) n f)
-    held : IsHeld keeping (fields_of m) f (field_term tree (space_in (bound_to s.names n).static_type) (field_place tree (space_in (bound_to s.names n).static_type) f))
+    held : IsHeld true (field_term tree (space_in (bound_to s.names n).static_type) (field_place tree (space_in (bound_to s.names n).static_type) f))
         (field_behind (here s line) n f)
     known : known_type tree s (access_expr n (field_step f no_step)) ≡ field_behind (here s line) n f
     may : (a : Access) → lacks tree task s (wanted_of_step tree a (field_of (bound_to s.names n).static_type f)) ≡ false → MayGo forms (here s line) n f (mode_in a)
@@ -225,16 +225,16 @@ module _ (handing keeping : Bool) (tree : Tree) (task : TaskTree) (sound : IsSou
       let w = here s line in
       let told = option_or_parts (rule_if (not (is_bound s.names n)) rule.Name) _ none in
       let there = not-false (is_bound s.names n) (rule_none (not (is_bound s.names n)) rule.Name told.0) in
-      let p = behind_name handing keeping task w sound sound_task m local scope names.names names.head n f there
+      let p = behind_name task w sound sound_task local scope names.names names.head n f there
       (λ cut. no_way (sym (colours_told s n f (bound_to s.names n).static_type cut told.1) ∙ other)) told.1 in record {
         keeps = p.keeps;
-        behind = is_behind handing keeping task w sound sound_task m local scope names.names names.head n f there p;
+        behind = is_behind task w sound sound_task local scope names.names names.head n f there p;
         held = p.held;
         known = p.known;
-        may = λ a lacking. gone handing keeping task w sound sound_task m local scope names.names names.head n f a p lacking;
+        may = λ a lacking. gone task w sound sound_task local scope names.names names.head n f a p lacking;
       }
 
-  pub set_behind_local : (s : Scope) (line : ℕ) (n f : Name) (y : Expression) → is_local_expression m y ≡ true → AreKept (parts_of_expression y) →
+  pub set_behind_local : (s : Scope) (line : ℕ) (n f : Name) (y : Expression) → is_written_expression y ≡ true → AreKept (parts_of_expression y) →
       IsSoundScope s → Ready s → first_of_form tree task s (assign_form n (field_step f no_step) how.Set y) ≡ None →
       IsTypedForm forms (here s line) (assign_form n (field_step f no_step) how.Set y)
   set_behind_local s line n f y lo k scope names none =
@@ -242,22 +242,23 @@ module _ (handing keeping : Bool) (tree : Tree) (task : TaskTree) (sound : IsSou
       let form = assign_form n steps how.Set y in
       let parts = told_of_form tree task s sound scope form none in
       let told = (option_or_parts (first_in_expression tree task s y) _ parts.2).0 in
-      let a = headed handing keeping tree task sound sound_task m local params result s line y lo k scope names told in
       let out = field_behind (here s line) n f in
       let u = known_type tree s (access_expr n steps) in
       let target = target_behind s line n f scope names (target_of_form tree task s sound scope form none)
       (or_parts (is_no_target task s.names n steps u) _ (told_later tree task s form none).0).0 in
       let spot = ap (λ b. typed_spot (cond b unknown_type u)) (told_later tree task s form none).0 ∙ ap typed_spot target.known in
-      let fit = stands_as handing keeping tree task sound sound_task m local params result s y (typed_spot out) scope told (subst (λ p. may_stand s.known (stands (known_type tree s y) p) ≡ true) spot
-      (first_stands s.known (stands (known_type tree s y) (spot_of_target (mistargets task s.names n steps how.Set u) how.Set u)) [] parts.4).0) in (
+      let fit = stands_as tree task sound sound_task local params result s y (typed_spot out) scope told (subst (λ p. may_stand s.known (stands (known_type tree s y) p) ≡ true) spot
+      (first_stands s.known (stands (known_type tree s y) (spot_of_target (mistargets task s.names n steps how.Set u) how.Set u)) [] parts.4).0) in
+      let a = valued tree task sound sound_task local params result s line y lo k scope names told
+      (λ c. collected_held true s.known (type_of tree s y) _ out c target.held fit) in (
         target.keeps,
-        assigned keeping (type_of tree s y) out (held_assigned keeping (fields_of m) f s.names s.known (type_of tree s y) _ out a.value target.held fit),
+        assigned true (type_of tree s y) out (held_assigned true s.names s.known (type_of tree s y) _ out a.value target.held fit),
         a.is,
         target.behind,
         target.may access.Write (told_privileges tree task s form none).0,
       )
 
-  pub reduce_behind_local : (s : Scope) (line : ℕ) (n f : Name) (o : Op) (y : Expression) → is_local_expression m y ≡ true → AreKept (parts_of_expression y) →
+  pub reduce_behind_local : (s : Scope) (line : ℕ) (n f : Name) (o : Op) (y : Expression) → is_written_expression y ≡ true → AreKept (parts_of_expression y) →
       IsSoundScope s → Ready s → first_of_form tree task s (assign_form n (field_step f no_step) (how.Reduce o) y) ≡ None →
       IsTypedForm forms (here s line) (assign_form n (field_step f no_step) (how.Reduce o) y)
   reduce_behind_local s line n f o y lo k scope names none =
@@ -265,18 +266,17 @@ module _ (handing keeping : Bool) (tree : Tree) (task : TaskTree) (sound : IsSou
       let form = assign_form n steps (how.Reduce o) y in
       let parts = told_of_form tree task s sound scope form none in
       let told = (option_or_parts (first_in_expression tree task s y) _ parts.2).0 in
-      let a = headed handing keeping tree task sound sound_task m local params result s line y lo k scope names told in
       let out = field_behind (here s line) n f in
       let u = known_type tree s (access_expr n steps) in
       let target = target_behind s line n f scope names (target_of_form tree task s sound scope form none)
       (or_parts (is_no_target task s.names n steps u) _ (told_later tree task s form none).0).0 in
       let whole = subst (λ v. may_be is_integer v ≡ true) target.known
       (not-false (may_be is_integer u) (or_parts (is_no_target task s.names n steps u) (not (may_be is_integer u)) (told_later tree task s form none).0).1) in
-      let may = stands_as handing keeping tree task sound sound_task m local params result s y integer_spot scope told (first_stands s.known (stands (known_type tree s y) integer_spot) [] parts.4).0 in (
+      let a = integer_head tree task sound sound_task local params result s line y lo k scope names told (first_stands s.known (stands (known_type tree s y) integer_spot) [] parts.4).0 in (
         target.keeps,
-        value_integer keeping s.names (type_of tree s y) a.value may,
-        held_integer keeping (fields_of m) f _ out target.held whole,
-        a.is,
+        a.0,
+        held_integer true _ out target.held whole,
+        a.1,
         target.behind,
         target.may (access.Reduce o) (told_privileges tree task s form none).1,
       )

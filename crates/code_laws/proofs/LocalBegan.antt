@@ -1,5 +1,5 @@
 -- Where it is derived of two regions that the one lies within the other, its binding lies below the other's.
-use Rattle.std.proofs.Common.{◌≡◌, ℕ, true, inl, inr, Some, refl, sym, ap, ◌∙◌, subst, ⊎_elim}
+use Rattle.std.proofs.Common.{◌≡◌, ℕ, true, inl, inr, Some, sym, ap, ◌∙◌, subst, ⊎_elim}
 use Rattle.check_laws.specs.SoundScopes.{Falls}
 use Rattle.regent_tree.specs.Facts.{is_subregion}
 use Rattle.regent_tree.specs.Scopes.{bound_as}
@@ -7,16 +7,15 @@ use Rattle.regent_tree.specs.Syntax.{TaskTree}
 use Rattle.regent_tree.specs.declared.facts.Term.{Term}
 use Rattle.regent_tree.specs.declared.facts.Term.TheVariants as term
 use Rattle.regent_tree.specs.declared.typing.Bound.{Bound}
-use Rattle.local_form.specs.LocalForm.{Marked}
 use Rattle.code_rules.specs.Slots.{Where}
 use Rattle.code_laws.specs.Arguments.{BeganWithin, IsPart, LiesBelow}
 use Rattle.code_laws.specs.Handing.{taking_of}
 use Rattle.code_laws.specs.Simple.{term_in}
 use Rattle.code_laws.specs.Steps.{Taking}
 use Rattle.code_laws.proofs.KnownHeads.{KnowsHead}
-use Rattle.code_laws.proofs.KnownParts.{Began, IsPaired, IsWithin, name_within}
+use Rattle.code_laws.proofs.KnownParts.{Began, IsWithin, name_within}
 
-module _ {m : Marked} (task : TaskTree) (w : Where) (head : KnowsHead m w.tree task w.scope) (falls : Falls w.scope.next w.scope.names) where
+module _ (task : TaskTree) (w : Where) (head : KnowsHead w.tree task w.scope) (falls : Falls w.scope.next w.scope.names) where
   abbrev y : Taking
   y = taking_of w.tree task
 

@@ -11,7 +11,7 @@ use Rattle.regent_tree.proofs.Members.{Has}
 use Rattle.regent_tree.specs.Accesses.{space_in}
 use Rattle.regent_tree.specs.Facts.{is_subregion, is_unknown}
 use Rattle.regent_tree.specs.Lookup.{is_bound}
-use Rattle.regent_tree.specs.Scopes.{bound_as, scope_of}
+use Rattle.regent_tree.specs.Scopes.{scope_of}
 use Rattle.regent_tree.specs.StaticTypes.{place_in, space_at, task_named}
 use Rattle.regent_tree.specs.Syntax.{Expression, Expressions, Name, TaskTree, access_expr, an_expr, at_step, no_expr, no_step}
 use Rattle.regent_tree.specs.Typing.{child_type, colour_of, is_disjoint, param_types, params_at, parent_of, type_of_element}
@@ -44,7 +44,6 @@ use Rattle.task_code.specs.declared.code.NeedCode.{NeedCode}
 use Rattle.code_rules.specs.Instructions.{place_of_task, tasks_of}
 use Rattle.code_rules.specs.Programs.{task_code}
 use Rattle.code_rules.specs.Slots.{Where, bound, typed}
-use Rattle.local_form.specs.LocalForm.{Marked}
 use Rattle.code_laws.specs.Handing.{forms_by, taking_of}
 use Rattle.code_laws.specs.Pointers.{AllGoToParams}
 use Rattle.code_laws.specs.Simple.{AreRegions, IsRegion, a_region_type, term_in, two_regions}
@@ -58,11 +57,9 @@ use Rattle.code_laws.proofs.KnownHeads.{KnowsHead, kept_may, may_touch}
 use Rattle.code_laws.proofs.KnownParts.{Began, IsPaired, name_within, part_below, part_landed, part_over, whole_may, whole_within}
 use Rattle.code_laws.proofs.LocalBegan.{began_within, below_told}
 use Rattle.code_laws.proofs.LocalGiven.{IsGivenAt, IsHandedAt, IsPartAt, handed_at, one_colour, same_name, IsCutBy, child_term}
-use Rattle.code_laws.proofs.LocalNames.{AllKept, IsKept, kept_partition, kept_region, kept_scalar, kept_value, named_kept, parent_among, region_of_number}
-use Rattle.code_laws.proofs.LocalTypes.{simple_other}
+use Rattle.code_laws.proofs.LocalNames.{AllKept, IsKept, kept_partition, kept_region, kept_value, named_kept, parent_among, region_of_number}
 use Rattle.code_laws.proofs.LocalValues.{bound_among, value_other}
 use Rattle.code_laws.proofs.Typing.{no_way_back}
-use Rattle.code_laws.proofs.Values.{scalar_simple}
 
 -- ---- regions and their types
 
@@ -88,11 +85,10 @@ lies_within : (known : List Known) (t u : StaticType) → IsRegion t → IsRegio
 lies_within known _ _ (a_region_type k sp args r) (a_region_type l sq brgs q) e = not-false (is_subregion known r q) e
 
 -- the term of a name's region is its own number
-pub kept_term : (keeping : Bool) (m : Marked) (bs : List Bound) (n : Name) (i : ℕ) (t : StaticType) → IsKept keeping m bs n i t → IsRegion t → term_in t ≡ term.Name i
-kept_term keeping m bs n i t (kept_scalar _ a) r = absurd (simple_other t (scalar_simple t a) r)
-kept_term keeping m bs n i t (kept_value _ a h p) r = absurd (value_other keeping bs t a r)
-kept_term keeping m bs n i _ (kept_region k sp args h) r = refl
-kept_term keeping m bs n i _ (kept_partition d q keeps among h) r = absurd (elim r [ ])
+pub kept_term : (keeping : Bool) (bs : List Bound) (i : ℕ) (t : StaticType) → IsKept keeping bs i t → IsRegion t → term_in t ≡ term.Name i
+kept_term keeping bs i t (kept_value _ a) r = absurd (value_other keeping bs t a r)
+kept_term keeping bs i _ (kept_region k sp args) r = refl
+kept_term keeping bs i _ (kept_partition d q keeps among) r = absurd (elim r [ ])
 
 all_met : (keeps : Bool) (o : Option Taking) (w : Where) (es : Expressions) (ns : List NeedCode) → ((n : NeedCode) → Has ns n → IsMetAt keeps o w es n) →
     AreMet keeps o w es ns
@@ -135,8 +131,8 @@ no_name (an_expr e es) (suc k) p at = no_name es k p at
 
 -- ---- a call
 
-module _ (keeping : Bool) (task : TaskTree) (w : Where) (sound : IsSound w.tree) (sound_task : IsSoundTask w.tree task) (m : Marked)
-    (scope : IsSoundScope w.scope) (names : AllKept keeping m w.scope.names) (head : KnowsHead m w.tree task w.scope) where
+module _ (task : TaskTree) (w : Where) (sound : IsSound w.tree) (sound_task : IsSoundTask w.tree task)
+    (scope : IsSoundScope w.scope) (names : AllKept true w.scope.names) (head : KnowsHead w.tree task w.scope) where
   -- the checker's type of an argument that is a name
   pub name_type : (es : Expressions) (k : ℕ) (n : Name) → first_in_args w.tree task w.scope es ≡ None → name_at es k ≡ Some n →
       type_at (known_types w.tree w.scope es) k ≡ (bound w n).static_type
@@ -159,7 +155,7 @@ module _ (keeping : Bool) (task : TaskTree) (w : Where) (sound : IsSound w.tree)
   cut_by n cut =
       let t = (bound w n).static_type in
       let i = (bound w n).number in
-      let among = parent_among keeping m w.scope.names n i t (named_kept keeping m w.scope.names n names cut.named) cut.partition in
+      let among = parent_among true w.scope.names i t (named_kept true w.scope.names n names cut.named) cut.partition in
       let parent = region_of_number w.scope.next w.scope.names (parent_of t) scope.numbers among.0 in
       let child : (e : Expression) → type_of_element w.scope t e ≡ child_type (parent_bound w n).static_type (term.Child i (colour_of w.scope e)) =
       λ e. ap (λ u. type_of_element w.scope u e) among.1 in record {
@@ -174,7 +170,7 @@ module _ (keeping : Bool) (task : TaskTree) (w : Where) (sound : IsSound w.tree)
       (parts : IsFlawless w.tree task w.scope (calling n (known_types w.tree w.scope args)))
       (callee_sound : IsSoundTask w.tree (task_named w.tree n))
       (callee_named : (sp i : ℕ) → i < length (space_at w.tree sp).fields → Has (fields_named w.tree sp None) i)
-      (passed : ArePassed (forms_by true keeping w.tree task) w (params_at w.tree w.scope (task_named w.tree n) args) (param_types w.tree (task_named w.tree n)) args) where
+      (passed : ArePassed (forms_by true true w.tree task) w (params_at w.tree w.scope (task_named w.tree n) args) (param_types w.tree (task_named w.tree n)) args) where
     abbrev t : TaskTree
     t = task_named w.tree n
 
@@ -188,7 +184,7 @@ module _ (keeping : Bool) (task : TaskTree) (w : Where) (sound : IsSound w.tree)
     types = known_types w.tree w.scope args
 
     abbrev forms : Forms
-    forms = forms_by true keeping w.tree task
+    forms = forms_by true true w.tree task
 
     region_at : (k : ℕ) → is_region (type_at ps k) ≡ true → IsGivenAt forms y refl w args k (type_at ps k)
     region_at k region = handed_at forms y refl w (params_at w.tree w.scope t args) ps args passed k region
@@ -209,16 +205,16 @@ module _ (keeping : Bool) (task : TaskTree) (w : Where) (sound : IsSound w.tree)
         right want (subst (λ rs. Has rs right) (sym (rights_soundly w.tree t callee_sound.clauses)) is.right) given in
         all_has (may_do (rights_declared w.tree task) w.scope.known) (wanted_by_call w.tree (calling n types)) want (not-false _ parts.allowed) wanted
 
-    met : (d : NeedCode) → Has (task_code w.tree t).needs d → IsMetAt keeping (Some y) w args d
+    met : (d : NeedCode) → Has (task_code w.tree t).needs d → IsMetAt true (Some y) w args d
     met d h =
         let is = need_declared w.tree t callee_sound callee_named d h in
         ⊎_elim
         (λ (a : IsHandedAt w args d.param (type_at ps d.param)).
         let b = (bound w a.name).static_type in
         let region = first_region b (type_at ps d.param) a.regions in
-        let done = kept_may true keeping w.tree task w.scope sound_task head m w.scope.names a.name (bound w a.name).number b (named_kept keeping m w.scope.names a.name names a.there) region
+        let done = kept_may w.tree task w.scope sound_task head w.scope.names (bound w a.name).number b (named_kept true w.scope.names a.name names a.there) region
         d.field is.access (allowed d is b a.regions (name_type args d.param a.name told a.at)) in
-        met_name keeping (Some y) w args d (subst (IsMet (Some y) w d) (sym a.at) (
+        met_name true (Some y) w args d (subst (IsMet (Some y) w d) (sym a.at) (
           a.there,
           region,
           subst (λ sp. d.field < length (space_at w.tree sp).fields) (same_space b (type_at ps d.param) a.regions) is.field,
@@ -234,8 +230,8 @@ module _ (keeping : Bool) (task : TaskTree) (w : Where) (sound : IsSound w.tree)
         (bound_among w.scope.names a.name a.cut.named) refl c.is (rights_declared w.tree task) d.field is.access
         (subst (λ u. may_do (rights_declared w.tree task) w.scope.known (wanting d.field is.access u) ≡ true) (c.part a.index)
         (allowed d is b a.regions (part_type args d.param p told a.at))) in
-        let done = may_touch true w.tree task w.scope sound_task head r d.field is.access may in
-        met_part keeping (Some y) w args d a.keeps (subst (IsMetPart (Some y) w d) (sym a.at) (
+        let done = may_touch w.tree task w.scope sound_task head r d.field is.access may in
+        met_part true (Some y) w args d a.keeps (subst (IsMetPart (Some y) w d) (sym a.at) (
           a.cut,
           subst (λ sp. d.field < length (space_at w.tree sp).fields)
               (same_space b (type_at ps d.param) a.regions ∙ part_space w (access_expr a.name (at_step a.index no_step)) p refl a.cut c.parent) is.field,
@@ -272,14 +268,14 @@ module _ (keeping : Bool) (task : TaskTree) (w : Where) (sound : IsSound w.tree)
     -- by what stands at the places of a constraint
     parted_as : (p : ℕ × ℕ) (lower upper : Name) → Has t.clauses (clause.Within lower upper) → (place_in t.params lower ≡ p.0) → (place_in t.params upper ≡ p.1) →
         IsGivenAt forms y refl w args (place_in t.params lower) (type_at ps (place_in t.params lower)) →
-        IsGivenAt forms y refl w args (place_in t.params upper) (type_at ps (place_in t.params upper)) → IsPartedAt keeping y w args p
+        IsGivenAt forms y refl w args (place_in t.params upper) (type_at ps (place_in t.params upper)) → IsPartedAt true y w args p
     parted_as p lower upper said low high (inl a) (inl b) =
         let ta = (bound w a.name).static_type in
         let tb = (bound w b.name).static_type in
         let ra = first_region ta _ a.regions in
         let rb = first_region tb _ b.regions in
-        let kept_a = kept_term keeping m w.scope.names a.name (bound w a.name).number ta (named_kept keeping m w.scope.names a.name names a.there) ra in
-        let kept_b = kept_term keeping m w.scope.names b.name (bound w b.name).number tb (named_kept keeping m w.scope.names b.name names b.there) rb in
+        let kept_a = kept_term true w.scope.names (bound w a.name).number ta (named_kept true w.scope.names a.name names a.there) ra in
+        let kept_b = kept_term true w.scope.names (bound w b.name).number tb (named_kept true w.scope.names b.name names b.there) rb in
         let lies = argument_within lower upper ta tb ra rb (name_type args (place_in t.params lower) a.name told a.at)
         (name_type args (place_in t.params upper) b.name told b.at) said in
         let by = parted_by a.name b.name a.there b.there (bound w a.name).number (bound w b.name).number refl refl
@@ -290,7 +286,7 @@ module _ (keeping : Bool) (task : TaskTree) (w : Where) (sound : IsSound w.tree)
         (λ is. inr (⊎_elim
         (λ pair. inl (subst (λ r. IsPart y r (term_in tb)) (sym kept_a) (subst (IsPart y (term.Name (bound w a.name).number)) (sym kept_b) pair)))
         (λ began. inr (began_within task w head scope.numbers (bound w a.name).number (bound w b.name).number (term_in ta) (bound w b.name) kept_a found kept_b began)) is)) by in
-        parted_names keeping y w args p (subst (λ i. IsParted y w (name_at args i) (name_at args p.1)) low
+        parted_names true y w args p (subst (λ i. IsParted y w (name_at args i) (name_at args p.1)) low
         (subst (λ j. IsParted y w (name_at args (place_in t.params lower)) (name_at args j)) high
         (subst (λ o. IsParted y w o (name_at args (place_in t.params upper))) (sym a.at)
         (subst (IsParted y w (Some a.name)) (sym b.at) (a.there, b.there, ra, rb, part)))))
@@ -301,7 +297,7 @@ module _ (keeping : Bool) (task : TaskTree) (w : Where) (sound : IsSound w.tree)
         let tb = (bound w b.name).static_type in
         let j = (bound w b.name).number in
         let rb = first_region tb _ b.regions in
-        let kept_b = kept_term keeping m w.scope.names b.name j tb (named_kept keeping m w.scope.names b.name names b.there) rb in
+        let kept_b = kept_term true w.scope.names j tb (named_kept true w.scope.names b.name names b.there) rb in
         let lies = argument_within lower upper (typed w (access_expr a.name (at_step a.index no_step))) tb (ca.like a.index) rb
         (part_type args (place_in t.params lower) (a.name, a.index) told a.at) (name_type args (place_in t.params upper) b.name told b.at) said in
         let over = whole_within w.tree task w.scope head i r (colour_of w.scope a.index) (is_disjoint (bound w a.name).static_type) (bound w a.name)
@@ -310,7 +306,7 @@ module _ (keeping : Bool) (task : TaskTree) (w : Where) (sound : IsSound w.tree)
         (subst (λ u. is_subregion w.scope.known u (term_in tb) ≡ true) (ca.part a.index) lies)) in
         let found = (found_by_number w.scope.next w.scope.names b.name scope.numbers b.there).0 in
         let by = below_told task w head scope.numbers r j (parent_bound w a.name) (bound w b.name) refl found ca.named kept_b over in
-        parted_below keeping y w args p a.keeps (subst (λ i. IsPartBelow y w (part_at args i) (name_at args p.1) (part_at args p.1)) low
+        parted_below true y w args p a.keeps (subst (λ i. IsPartBelow y w (part_at args i) (name_at args p.1) (part_at args p.1)) low
         (subst (λ j. IsPartBelow y w (part_at args (place_in t.params lower)) (name_at args j) (part_at args j)) high
         (subst (λ o. IsPartBelow y w o (name_at args (place_in t.params upper)) (part_at args (place_in t.params upper))) (sym a.at)
         (subst (λ o. IsPartBelow y w (Some (a.name, a.index)) o (part_at args (place_in t.params upper))) (sym b.at)
@@ -334,14 +330,14 @@ module _ (keeping : Bool) (task : TaskTree) (w : Where) (sound : IsSound w.tree)
         let name = same_name w scope.numbers a.name b.name a.cut.named b.cut.named (sym (ap partition_in alike)) in
         let colour = one_colour forms w scope.numbers a.index b.index a.indexed b.indexed (sym (ap colour_in alike))
         (subst (λ c. not (is_unknown c) ≡ true) (ap colour_in alike) q.certain) in
-        parted_below keeping y w args p a.keeps (subst (λ i. IsPartBelow y w (part_at args i) (name_at args p.1) (part_at args p.1)) low
+        parted_below true y w args p a.keeps (subst (λ i. IsPartBelow y w (part_at args i) (name_at args p.1) (part_at args p.1)) low
         (subst (λ j. IsPartBelow y w (part_at args (place_in t.params lower)) (name_at args j) (part_at args j)) high
         (subst (λ o. IsPartBelow y w o (name_at args (place_in t.params upper)) (part_at args (place_in t.params upper))) (sym a.at)
         (subst (λ o. IsPartBelow y w (Some (a.name, a.index)) o (part_at args (place_in t.params upper))) (sym (no_name args (place_in t.params upper) (b.name, b.index) b.at))
         (subst (IsPartBelow y w (Some (a.name, a.index)) None) (sym b.at) (a.cut, name, colour)))))))
         (λ below.
         let land = lands (b.name, b.index) b.cut r below q.certain in
-        parted_piece keeping y w args p a.keeps (subst (λ i. IsPieceBelow y w (name_at args i) (part_at args i) (part_at args p.1)) low
+        parted_piece true y w args p a.keeps (subst (λ i. IsPieceBelow y w (name_at args i) (part_at args i) (part_at args p.1)) low
         (subst (λ j. IsPieceBelow y w (name_at args (place_in t.params lower)) (part_at args (place_in t.params lower)) (part_at args j)) high
         (subst (λ o. IsPieceBelow y w o (part_at args (place_in t.params lower)) (part_at args (place_in t.params upper))) (sym (no_name args (place_in t.params lower) (a.name, a.index) a.at))
         (subst (λ o. IsPieceBelow y w None o (part_at args (place_in t.params upper))) (sym a.at)
@@ -354,7 +350,7 @@ module _ (keeping : Bool) (task : TaskTree) (w : Where) (sound : IsSound w.tree)
         let ta = (bound w a.name).static_type in
         let i = (bound w a.name).number in
         let ra = first_region ta _ a.regions in
-        let kept_a = kept_term keeping m w.scope.names a.name i ta (named_kept keeping m w.scope.names a.name names a.there) ra in
+        let kept_a = kept_term true w.scope.names i ta (named_kept true w.scope.names a.name names a.there) ra in
         let j = (bound w b.name).number in
         let kb = colour_of w.scope b.index in
         let lies = argument_within lower upper ta (typed w (access_expr b.name (at_step b.index no_step))) ra (cb.like b.index)
@@ -363,17 +359,17 @@ module _ (keeping : Bool) (task : TaskTree) (w : Where) (sound : IsSound w.tree)
         (subst (λ u. is_subregion w.scope.known (term.Name i) u ≡ true) (cb.part b.index)
         (subst (λ u. is_subregion w.scope.known u (term_in (typed w (access_expr b.name (at_step b.index no_step)))) ≡ true) kept_a lies)) in
         let land = lands (b.name, b.index) b.cut i q.below q.certain in
-        parted_piece keeping y w args p b.keeps (subst (λ i. IsPieceBelow y w (name_at args i) (part_at args i) (part_at args p.1)) low
+        parted_piece true y w args p b.keeps (subst (λ i. IsPieceBelow y w (name_at args i) (part_at args i) (part_at args p.1)) low
         (subst (λ j. IsPieceBelow y w (name_at args (place_in t.params lower)) (part_at args (place_in t.params lower)) (part_at args j)) high
         (subst (λ o. IsPieceBelow y w o (part_at args (place_in t.params lower)) (part_at args (place_in t.params upper))) (sym a.at)
         (subst (IsPieceBelow y w (Some a.name) (part_at args (place_in t.params lower))) (sym b.at)
         (record { named = a.there; numbers = scope.numbers; region = ra }, kept_a, land)))))
 
-    parted : (p : ℕ × ℕ) → Has (pairs_in (scope_of w.tree t).known) p → IsPartedAt keeping y w args p
+    parted : (p : ℕ × ℕ) → Has (pairs_in (scope_of w.tree t).known) p → IsPartedAt true y w args p
     parted p h =
         let c = pair_constrained w.tree t callee_sound p h in
         parted_as p c.lower c.upper c.told c.are.0 c.are.1 (region_at (place_in t.params c.lower) c.low.region) (region_at (place_in t.params c.upper) c.high.region)
 
-    pub calls_handed : slice_get (tasks_of w.tree) (place_of_task w.tree n) ≡ Some t → AllGoToParams (scope_of w.tree t).names → AreDivided w args 0 ps → IsCallable (forms_by true keeping w.tree task) w n args
+    pub calls_handed : slice_get (tasks_of w.tree) (place_of_task w.tree n) ≡ Some t → AllGoToParams (scope_of w.tree t).names → AreDivided w args 0 ps → IsCallable (forms_by true true w.tree task) w n args
     calls_handed at goals divided =
-        (at, all_met keeping (Some y) w args (task_code w.tree t).needs met, all_parted keeping y w args (pairs_in (scope_of w.tree t).known) parted, goals, divided)
+        (at, all_met true (Some y) w args (task_code w.tree t).needs met, all_parted true y w args (pairs_in (scope_of w.tree t).known) parted, goals, divided)

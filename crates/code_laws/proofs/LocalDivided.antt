@@ -1,6 +1,6 @@
 -- Partitions that are given to parameters, where nothing is told: each is of the region that is given for its parent. So calls may be made.
 use Rattle.std.proofs.Common.{◌≡◌, ℕ, zero, suc, List, [], ◌∷◌, inl, inr, Bool, true, false, Some, None, refl, sym, ap, ◌∙◌, subst, ⊎_elim, ◌+◌, ◌&&◌, not, arith}
-use Rattle.std.specs.Prelude.{length, not}
+use Rattle.std.specs.Prelude.{not}
 use Rattle.std.proofs.lemmas.Bool.{not-false, or_parts, eqb-true}
 use Rattle.regent_tree.specs.Facts.{is_name}
 use Rattle.regent_tree.specs.Scopes.{bound_as, scope_of}
@@ -19,11 +19,10 @@ use Rattle.check_rules.specs.types.Sorts.{is_region, type_at}
 use Rattle.check_rules.specs.types.TypedForms.{calling}
 use Rattle.expression_laws.proofs.Calls.{IsFlawless}
 use Rattle.code_rules.specs.Slots.{Where, bound, typed}
-use Rattle.local_form.specs.LocalForm.{Marked}
 use Rattle.code_laws.specs.Handing.{forms_by, taking_of}
-use Rattle.code_laws.specs.Simple.{IsRegion, a_region_type, term_in, IsScalar, IsPartition, a_partition_type, scalar_integer, scalar_truth}
+use Rattle.code_laws.specs.Simple.{IsRegion, a_region_type, term_in, IsPartition, a_partition_type}
 use Rattle.code_laws.specs.Steps.{Forms, Taking}
-use Rattle.code_laws.specs.Arguments.{AreDivided, AreMet, IsCutName, name_at, name_of, IsDivided, IsDividedBy, IsHanded}
+use Rattle.code_laws.specs.Arguments.{AreDivided, IsCutName, name_at, name_of, IsDivided, IsDividedBy, IsHanded}
 use Rattle.code_laws.specs.Typed.{ArePassed, IsCallable, IsIndexed, IsPassed, IsTyped}
 use Rattle.code_laws.proofs.Arguments.{first_region}
 use Rattle.code_laws.proofs.KnownHeads.{KnowsHead}
@@ -38,17 +37,7 @@ use Rattle.code_laws.proofs.CallCuts.{passes_no_cut, regions_no_cut}
 use Rattle.code_laws.proofs.LocalCalls.{calls_handed, kept_term, cut_by, name_type, part_type}
 use Rattle.code_laws.proofs.Arguments.{IsCutArgument, IsPartArgument, handed_name, handed_part}
 use Rattle.code_laws.proofs.Wider.{passing}
-use Rattle.code_laws.proofs.LocalNames.{AreScalars}
 use Rattle.check_laws.specs.SoundScopes.{IsPlaced}
-
--- numbers and truths are no partitions
-none_divided : (w : Where) (args : Expressions) (k : ℕ) (ts : List StaticType) → AreScalars ts → AreDivided w args k ts
-none_divided w args k [] a = tt
-none_divided w args k (t ∷ ts) a = (one t a.0, none_divided w args (suc k) ts a.1)
-  where
-    one : (t : StaticType) → IsScalar t → IsDivided w args k t
-    one _ (scalar_integer v) = tt
-    one _ scalar_truth = tt
 
 -- an argument that is a partition is that of a name
 record IsCutAt (w : Where) (es : Expressions) (k : ℕ) : Type 0 where
@@ -105,11 +94,11 @@ told_at types (p ∷ ps) (t ∷ ts) e (suc k) = told_at types ps ts (or_parts (m
 parent_named : (i : ℕ) (t : StaticType) → IsRegion t → is_parent i t ≡ true → is_name i (term_in t) ≡ true
 parent_named i _ (a_region_type k sp args r) e = e
 
-module _ (keeping : Bool) (task : TaskTree) (w : Where) (sound : IsSound w.tree) (sound_task : IsSoundTask w.tree task) (m : Marked)
-    (scope : IsSoundScope w.scope) (names : AllKept keeping m w.scope.names) (head : KnowsHead m w.tree task w.scope) (declared : HasSpacedDeclarations w.tree)
+module _ (task : TaskTree) (w : Where) (sound : IsSound w.tree) (sound_task : IsSoundTask w.tree task)
+    (scope : IsSoundScope w.scope) (names : AllKept true w.scope.names) (head : KnowsHead w.tree task w.scope) (declared : HasSpacedDeclarations w.tree)
     (n : Name) (args : Expressions) (told : first_in_args w.tree task w.scope args ≡ None)
     (parts : IsFlawless w.tree task w.scope (calling n (known_types w.tree w.scope args)))
-    (passed : ArePassed (forms_by true keeping w.tree task) w (params_at w.tree w.scope (task_named w.tree n) args) (param_types w.tree (task_named w.tree n)) args) where
+    (passed : ArePassed (forms_by true true w.tree task) w (params_at w.tree w.scope (task_named w.tree n) args) (param_types w.tree (task_named w.tree n)) args) where
   abbrev t : TaskTree
   t = task_named w.tree n
 
@@ -123,7 +112,7 @@ module _ (keeping : Bool) (task : TaskTree) (w : Where) (sound : IsSound w.tree)
   types = known_types w.tree w.scope args
 
   abbrev forms : Forms
-  forms = forms_by true keeping w.tree task
+  forms = forms_by true true w.tree task
 
   -- the parameter of a partition's parent is a region
   parent_region : (k : ℕ) (d : Bool) (r own : ℕ) → type_at ps k ≡ partition_type d r own → is_region (type_at ps r) ≡ true
@@ -136,11 +125,11 @@ module _ (keeping : Bool) (task : TaskTree) (w : Where) (sound : IsSound w.tree)
       is_parent (parent_of (bound w c.name).static_type) (type_at types r) ≡ true
   parent_is k d r own e c =
       let b = (bound w c.name).static_type in
-      let cut = cut_by keeping task w sound sound_task m scope names head c.name c.cut in
+      let cut = cut_by task w sound sound_task scope names head c.name c.cut in
       let none : mispartitions types (type_at ps k) (type_at types k) ≡ false =
       told_at types ps types (subst (λ ts. mispartition_in types ts types ≡ false) (ap types_in_order (sound.params n)) parts.parted) k in
       let here : mispartitions types (partition_type d r own) (partition_type (is_disjoint b) (parent_of b) (bound w c.name).number) ≡ false =
-      subst (λ u. mispartitions types (partition_type d r own) u ≡ false) (name_type keeping task w sound sound_task m scope names head args k c.name told c.at ∙ cut.is)
+      subst (λ u. mispartitions types (partition_type d r own) u ≡ false) (name_type task w sound sound_task scope names head args k c.name told c.at ∙ cut.is)
       (subst (λ p. mispartitions types p (type_at types k) ≡ false) e none) in
       not-false (is_parent (parent_of b) (type_at types r)) (or_parts (d && not (is_disjoint b)) _ here).1
 
@@ -153,9 +142,9 @@ module _ (keeping : Bool) (task : TaskTree) (w : Where) (sound : IsSound w.tree)
       let b = (bound w a.name).static_type in
       let region = first_region b (type_at ps r) a.regions in
       let i = (bound w a.name).number in
-      let kept = kept_term keeping m w.scope.names a.name i b (named_kept keeping m w.scope.names a.name names a.there) region in
+      let kept = kept_term true w.scope.names i b (named_kept true w.scope.names a.name names a.there) region in
       let is : is_parent parent b ≡ true =
-      subst (λ u. is_parent parent u ≡ true) (name_type keeping task w sound sound_task m scope names head args r a.name told a.at) (parent_is k d r own e c) in
+      subst (λ u. is_parent parent u ≡ true) (name_type task w sound sound_task scope names head args r a.name told a.at) (parent_is k d r own e c) in
       let number : parent ≡ i = eqb-true parent i (subst (λ u. is_name parent u ≡ true) kept (parent_named parent b region is)) in
       let found = (found_by_number w.scope.next w.scope.names a.name scope.numbers a.there).0 in
       subst (λ o. IsDividedBy w o (name_at args r)) (sym c.at)
@@ -166,9 +155,9 @@ module _ (keeping : Bool) (task : TaskTree) (w : Where) (sound : IsSound w.tree)
       )))
       (λ (a : IsPartAt forms w args r (type_at ps r)).
       let part = typed w (access_expr a.name (at_step a.index no_step)) in
-      let cut = cut_by keeping task w sound sound_task m scope names head a.name a.cut in
+      let cut = cut_by task w sound sound_task scope names head a.name a.cut in
       let is : is_parent parent part ≡ true =
-      subst (λ u. is_parent parent u ≡ true) (part_type keeping task w sound sound_task m scope names head args r (a.name, a.index) told a.at) (parent_is k d r own e c) in
+      subst (λ u. is_parent parent u ≡ true) (part_type task w sound sound_task scope names head args r (a.name, a.index) told a.at) (parent_is k d r own e c) in
       absurd (no_way_back (subst (λ u. is_name parent u ≡ true) (cut.part a.index) (parent_named parent part (cut.like a.index) is))))
       (handed_at forms y refl w (params_at w.tree w.scope t args) ps args passed r (parent_region k d r own e))
 
@@ -194,13 +183,11 @@ module _ (keeping : Bool) (task : TaskTree) (w : Where) (sound : IsSound w.tree)
   divided_told = divided_from 0 ps (λ j. ap (type_at ps) (omega arith))
 
 -- with regions that are handed over, or without
-pub may_call : (handing keeping : Bool) (task : TaskTree) (w : Where) → IsSound w.tree → IsSoundTask w.tree task → (m : Marked) → IsLocalTree handing keeping m w.tree →
-    IsSoundScope w.scope → AllKept keeping m w.scope.names → KnowsHead m w.tree task w.scope → (n : Name) (args : Expressions) → IsLocalTask handing keeping w.tree n →
+pub may_call : (task : TaskTree) (w : Where) → IsSound w.tree → IsSoundTask w.tree task → IsLocalTree w.tree →
+    IsSoundScope w.scope → AllKept true w.scope.names → KnowsHead w.tree task w.scope → (n : Name) (args : Expressions) → IsLocalTask w.tree n →
     first_in_args w.tree task w.scope args ≡ None → IsFlawless w.tree task w.scope (calling n (known_types w.tree w.scope args)) →
-    ArePassed (forms_by handing keeping w.tree task) w (params_at w.tree w.scope (task_named w.tree n) args) (param_types w.tree (task_named w.tree n)) args →
-    IsCallable (forms_by handing keeping w.tree task) w n args
-may_call false keeping task w sound sound_task m local scope names head n args l told parts passed =
-    (l.called, subst (AreMet keeping None w args) (sym (l.alone refl).needs) tt, tt, l.goals, none_divided w args 0 (param_types w.tree (task_named w.tree n)) (l.alone refl).params)
-may_call true keeping task w sound sound_task m local scope names head n args l told parts passed =
-    calls_handed keeping task w sound sound_task m scope names head n args told parts (sound.tasks (task_named w.tree n) l.stands) local.named passed l.called l.goals
-    (divided_told keeping task w sound sound_task m scope names head local.declared n args told parts passed)
+    ArePassed (forms_by true true w.tree task) w (params_at w.tree w.scope (task_named w.tree n) args) (param_types w.tree (task_named w.tree n)) args →
+    IsCallable (forms_by true true w.tree task) w n args
+may_call task w sound sound_task local scope names head n args l told parts passed =
+    calls_handed task w sound sound_task scope names head n args told parts (sound.tasks (task_named w.tree n) l.stands) local.named passed l.called l.goals
+    (divided_told task w sound sound_task scope names head local.declared n args told parts passed)

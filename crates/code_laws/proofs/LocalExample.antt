@@ -9,7 +9,8 @@ use Rattle.std.specs.List.{list_all}
 use Rattle.std.specs.Prelude.{All, nat_le}
 use Rattle.regent_tree.specs.Limits.{KeepsLimit, Part, WithinLimits, counted, greatest_literal, literal, most, node, parts_of_program}
 use Rattle.code_laws.specs.LocalExample.{LocalExampleHolds, local_program}
-use Rattle.code_laws.specs.LocalPrograms.{IsLocalProgramRun}
+use Rattle.code_laws.specs.AcceptedPrograms.{IsProgramRun}
+use Rattle.code_laws.proofs.WrittenForms.{program_written}
 
 -- whether a part keeps its limit, by computing
 abbrev keeps : Part → Bool
@@ -30,15 +31,15 @@ all_keep ps e k d low = keeps_limit _ (AllPass-from_list_all keeps ps e k d low)
 within : WithinLimits local_program
 within = record { each = all_keep (parts_of_program local_program) refl; nodes = omega (arith) }
 
-run : IsLocalProgramRun local_program (pos 5 ∷ [])
-run = record { within = within; accepted = refl; local = refl; numbers = (omega (arith, ints), tt) }
+run : IsProgramRun local_program (pos 5 ∷ [])
+run = record { within = within; accepted = refl; written = program_written local_program refl; numbers = (omega (arith, ints), tt) }
 
 pub local_example_holds : LocalExampleHolds
 unfolding int_wrap digits
 local_example_holds = record {
   run = run;
-  kept = record { run = run; kept = refl; plain = refl };
+  plain = record { run = run; plain = refl };
   end_is = refl;
-  fault_run = record { within = within; accepted = refl; local = refl; numbers = (omega (arith, ints), tt) };
+  fault_run = record { within = within; accepted = refl; written = program_written local_program refl; numbers = (omega (arith, ints), tt) };
   fault_is = refl;
 }

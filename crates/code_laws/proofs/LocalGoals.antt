@@ -1,7 +1,7 @@
 -- What regions and partitions are bound, and to which of them pointers of a type go.
-use Rattle.std.proofs.Common.{◌≡◌, Bool, List, [], ◌∷◌, ◌++◌, None, Some, false, true, refl, ap, subst, sym, ℕ, ◌<◌, ◌∙◌, ◌||◌, cond, inl, inr, arith}
+use Rattle.std.proofs.Common.{◌≡◌, Bool, List, [], ◌∷◌, None, Some, false, true, refl, ap, subst, sym, ℕ, ◌<◌, ◌∙◌, ◌||◌, cond, inl, inr, arith}
 use Rattle.std.specs.Prelude.{bytes_eq, ◌==◌}
-use Rattle.regent_tree.proofs.Members.{Has, Has-append_left}
+use Rattle.regent_tree.proofs.Members.{Has}
 use Rattle.regent_tree.specs.Accesses.{space_in}
 use Rattle.regent_tree.specs.Lookup.{is_bound}
 use Rattle.regent_tree.specs.Scopes.{bound_as, bound_to}
@@ -30,10 +30,6 @@ pub record IsRegionAmong (bs : List Bound) (i : ℕ) : Type 0 where
 pub region_behind : (b : Bound) (bs : List Bound) (i : ℕ) → IsRegionAmong bs i → IsRegionAmong (b ∷ bs) i
 region_behind b bs i r = record { named = r.named; among = inr r.among; number = r.number; region = r.region; term = r.term }
 
-pub region_before : (bs more : List Bound) (i : ℕ) → IsRegionAmong bs i → IsRegionAmong (bs ++ more) i
-region_before bs more i r =
-    record { named = r.named; among = Has-append_left bs more r.named r.among; number = r.number; region = r.region; term = r.term }
-
 -- so is each region of a list, of a field space, but those that may be any
 abbrev pub AreAmong : List Bound → ℕ → List Reach → Type 0
 AreAmong bs sp [] = Unit {0}
@@ -47,13 +43,6 @@ among_behind b bs sp [] a = tt
 among_behind b bs sp (Some (place.Name i) ∷ rs) a = (region_behind b bs i a.0, a.1, among_behind b bs sp rs a.2)
 among_behind b bs sp (Some (place.Child p c) ∷ rs) a = absurd a
 among_behind b bs sp (None ∷ rs) a = among_behind b bs sp rs a
-
-among_before : (bs more : List Bound) (sp : ℕ) (rs : List Reach) → AreAmong bs sp rs → AreAmong (bs ++ more) sp rs
-unfolding region_before
-among_before bs more sp [] a = tt
-among_before bs more sp (Some (place.Name i) ∷ rs) a = (region_before bs more i a.0, a.1, among_before bs more sp rs a.2)
-among_before bs more sp (Some (place.Child p c) ∷ rs) a = absurd a
-among_before bs more sp (None ∷ rs) a = among_before bs more sp rs a
 
 -- they have names
 pub names_among : (bs : List Bound) (sp : ℕ) (rs : List Reach) → AreAmong bs sp rs → AreNames rs
@@ -78,17 +67,6 @@ unfolding region_behind
 cut_behind b bs sp p r =
     record { named = r.named; among = inr r.among; number = r.number; is = r.is; parent = region_behind b bs (parent_of r.named.static_type) r.parent; space = r.space }
 
-cut_before : (bs more : List Bound) (sp p : ℕ) → IsCutAmong bs sp p → IsCutAmong (bs ++ more) sp p
-unfolding region_before
-cut_before bs more sp p r = record {
-  named = r.named;
-  among = Has-append_left bs more r.named r.among;
-  number = r.number;
-  is = r.is;
-  parent = region_before bs more (parent_of r.named.static_type) r.parent;
-  space = r.space;
-}
-
 -- a pointer goes to such regions, or into a part of such a partition
 abbrev pub AreGoals : List Bound → ℕ → List Reach → Type 0
 AreGoals bs sp (Some (place.Child p c) ∷ rs) = IsCutAmong bs sp p × (rs ≡ [])
@@ -99,12 +77,6 @@ goals_behind b bs sp [] a = tt
 goals_behind b bs sp (Some (place.Name i) ∷ rs) a = among_behind b bs sp (Some (place.Name i) ∷ rs) a
 goals_behind b bs sp (Some (place.Child p c) ∷ rs) a = (cut_behind b bs sp p a.0, a.1)
 goals_behind b bs sp (None ∷ rs) a = among_behind b bs sp (None ∷ rs) a
-
-pub goals_before : (bs more : List Bound) (sp : ℕ) (rs : List Reach) → AreGoals bs sp rs → AreGoals (bs ++ more) sp rs
-goals_before bs more sp [] a = tt
-goals_before bs more sp (Some (place.Name i) ∷ rs) a = among_before bs more sp (Some (place.Name i) ∷ rs) a
-goals_before bs more sp (Some (place.Child p c) ∷ rs) a = (cut_before bs more sp p a.0, a.1)
-goals_before bs more sp (None ∷ rs) a = among_before bs more sp (None ∷ rs) a
 
 pub names_aims : (rs : List Reach) → AreNames rs → AreAims rs
 names_aims [] n = tt

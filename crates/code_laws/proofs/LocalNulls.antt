@@ -1,7 +1,7 @@
--- Null, casts and written types of pointers and indices, in a text with marked names of which no breach is told.
-use Rattle.std.proofs.Common.{◌≡◌, Bool, List, [], ◌∷◌, None, Some, false, true, ap, refl, sym, subst, ◌∙◌, not, map}
+-- Null, casts and written types, of which no breach is told.
+use Rattle.std.proofs.Common.{◌≡◌, ◌⊎◌, inl, inr, Bool, List, [], ◌∷◌, None, Some, false, true, ap, refl, sym, ◌∙◌, not, map}
 use Rattle.std.specs.Prelude.{◌||◌, ◌&&◌}
-use Rattle.std.specs.List.{list_all, list_any}
+use Rattle.std.specs.List.{list_any}
 use Rattle.std.proofs.lemmas.Bool.{and_parts, eqb-true, not-false, or_parts}
 use Rattle.plain_values.proofs.Plain.{option_or_parts}
 use Rattle.regent_tree.specs.Accesses.{space_in}
@@ -27,43 +27,40 @@ use Rattle.check_laws.specs.SoundScopes.{IsSoundScope}
 use Rattle.check_rules.proofs.Untold.{rule_none}
 use Rattle.check_rules.proofs.Written.{names_known}
 use Rattle.check_rules.specs.declared.rule.Rule.TheVariants as rule
-use Rattle.check_rules.specs.first.FirstInExpressions.{first_in_expression, first_in_type, first_of_standing}
+use Rattle.check_rules.specs.first.FirstInExpressions.{first_in_expression, first_in_type}
 use Rattle.check_rules.specs.rules.Counts.{miscounts_in_type}
 use Rattle.check_rules.specs.rules.Names.{misses_region, unbound_name_in_type}
 use Rattle.check_rules.specs.rules.Pointers.{is_region_in, is_wrong_region_of_pointer, wrong_region_in_type}
 use Rattle.check_rules.specs.rules.Spaces.{misfits_in_type}
-use Rattle.check_rules.specs.rules.Standing.{number_spot, pointer_spot, stands}
 use Rattle.check_rules.specs.scopes.Sound.{IsSound, IsSoundTask}
 use Rattle.check_rules.specs.scopes.Variables.{declared_type}
 use Rattle.check_rules.specs.types.Declarations.{is_flawed_type}
 use Rattle.check_rules.specs.types.Fitting.{fits}
-use Rattle.check_rules.specs.types.KnownTypes.{known_type}
 use Rattle.check_rules.specs.types.Lookup.{names_a}
 use Rattle.check_rules.specs.types.Sorts.{may_be, same_kind}
 use Rattle.code_rules.specs.Slots.{Where, typed}
-use Rattle.local_form.specs.LocalForm.{Marked, goes_to_name, goes_to_names, is_among, is_kept_term, is_said_term, takes_element}
 use Rattle.code_laws.specs.Handing.{forms_by}
 use Rattle.code_laws.specs.Pointers.{AreThere, BeginsAs, BeginsWith, GoesInto, IsPointer, IsWritten, a_pointer_type, begins_plain, begins_pointer, into_space, itself_null, itself_plain, zero_index}
 use Rattle.code_laws.specs.Simple.{IsScalar, scalar_truth, simple_index, simple_integer, simple_space, simple_truth}
 use Rattle.code_laws.specs.Steps.{Forms}
 use Rattle.code_laws.proofs.KnownHeads.{KnowsHead}
 use Rattle.code_laws.proofs.LocalElements.{region_among, region_found, region_of_space, region_typed}
-use Rattle.code_laws.proofs.LocalParams.{names_keep}
-use Rattle.code_laws.proofs.LocalNames.{AllKept, IsKept, IsLocalTree, kept_partition, kept_region, kept_scalar, kept_value, named_kept}
-use Rattle.code_laws.proofs.LocalPoints.{IsWell, local_known, scalar_well}
+use Rattle.code_laws.proofs.LocalNames.{AllKept, IsKept, IsLocalTree, kept_partition, kept_region, kept_value, named_kept}
+use Rattle.code_laws.proofs.LocalPoints.{IsWell, scalar_well, IsNumbered}
 use Rattle.code_laws.proofs.LocalTypes.{term_scalar}
-use Rattle.code_laws.proofs.LocalValues.{AreAmong, IsRegionAmong, IsValue, alike_begins, index_goes, names_among, pointer_fitting, scalar_begins, value_counts, value_fitting, value_pointer, value_simple, names_aims, goals_aims, among_goals}
-use Rattle.code_laws.proofs.Typing.{no_way, no_way_back, stands_well}
+use Rattle.code_laws.proofs.LocalValues.{AreAmong, IsRegionAmong, IsValue, alike_begins, index_goes, names_among, pointer_fitting, scalar_begins, value_fitting, value_pointer, value_simple, names_aims, goals_aims, among_goals}
+use Rattle.code_laws.proofs.Typing.{no_way, no_way_back}
 use Rattle.code_laws.proofs.Values.{scalar_simple}
 use Rattle.code_laws.proofs.Wider.{counting}
+use Rattle.code_laws.proofs.LocalTaken.{IsCollection, collects_partition, collects_region}
 
 -- no value is a region
-value_not_in : (keeping : Bool) (bs : List Bound) (tree : Tree) (p : PointerTerm) (t : StaticType) → IsValue keeping bs t → may_be (is_region_in tree p) t ≡ false
-value_not_in keeping bs tree p _ (value_simple _ (simple_integer w)) = refl
-value_not_in keeping bs tree p _ (value_simple _ simple_truth) = refl
-value_not_in keeping bs tree p _ (value_simple _ (simple_space k)) = refl
-value_not_in keeping bs tree p _ (value_simple _ (simple_index k)) = refl
-value_not_in keeping bs tree p _ (value_pointer k sp args i q r) = refl
+value_not_in : (bs : List Bound) (tree : Tree) (p : PointerTerm) (t : StaticType) → IsValue true bs t → may_be (is_region_in tree p) t ≡ false
+value_not_in bs tree p _ (value_simple _ (simple_integer w)) = refl
+value_not_in bs tree p _ (value_simple _ simple_truth) = refl
+value_not_in bs tree p _ (value_simple _ (simple_space k)) = refl
+value_not_in bs tree p _ (value_simple _ (simple_index k)) = refl
+value_not_in bs tree p _ (value_pointer k sp args i q r) = refl
 
 -- where the field space is there, a region's is the pointer's
 space_same : (a b c : Bool) → a ≡ true → (b && (not a || c)) ≡ true → c ≡ true
@@ -72,11 +69,10 @@ space_same false b c h e = absurd (no_way_back h)
 
 -- ---- written types
 
-module _ (keeping : Bool) (m : Marked) (keeps : m.keeps ≡ true → keeping ≡ true) (tree : Tree) (s : Scope) (scope : IsSoundScope s) (names : AllKept keeping m s.names) where
+module _ (tree : Tree) (s : Scope) (scope : IsSoundScope s) (names : AllKept true s.names) where
   -- a pointer's type that is written, and may be kept
   pub record IsSaid (u : StaticType) : Type 0 where
-    pub keep : keeping ≡ true
-    pub value : IsValue keeping s.names u
+    pub value : IsValue true s.names u
     pub written : IsWritten s.names u
     pub certain : has_wild (reaches_of u) ≡ false
 
@@ -87,13 +83,11 @@ module _ (keeping : Bool) (m : Marked) (keeps : m.keeps ≡ true → keeping ≡
     there : AreThere s.names (place_of_space tree p.space.name) (Some (place.Name (bound_to s.names n).number) ∷ [])
 
   named_of : (p : PointerTerm) (n : Name) → is_bound s.names n ≡ true → has_space tree p.space.name ≡ true →
-      (t : StaticType) → type_named s.names n ≡ t → IsKept keeping m s.names n (bound_to s.names n).number t → may_be (is_region_in tree p) t ≡ true →
+      (t : StaticType) → type_named s.names n ≡ t → IsKept true s.names (bound_to s.names n).number t → may_be (is_region_in tree p) t ≡ true →
       IsNamed p n
-  named_of p n there space t same (kept_scalar _ a) e =
-      absurd (no_way (sym e ∙ value_not_in keeping s.names tree p t (value_simple t (scalar_simple t a))))
-  named_of p n there space t same (kept_value _ a h q) e = absurd (no_way (sym e ∙ value_not_in keeping s.names tree p t a))
-  named_of p n there space _ same (kept_partition d r q a h) e = absurd (no_way_back e)
-  named_of p n there space _ same (kept_region k sp args h) e =
+  named_of p n there space t same (kept_value _ a) e = absurd (no_way (sym e ∙ value_not_in s.names tree p t a))
+  named_of p n there space _ same (kept_partition d r q a) e = absurd (no_way_back e)
+  named_of p n there space _ same (kept_region k sp args) e =
       let found = region_found s.next s.names scope.numbers n there k sp args same in
       let place_same : place_of_space tree p.space.name ≡ sp =
       eqb-true (place_of_space tree p.space.name) sp (space_same (has_space tree p.space.name) (same_kind p.kind k) _ space e) in record {
@@ -108,37 +102,32 @@ module _ (keeping : Bool) (m : Marked) (keeps : m.keeps ≡ true → keeping ≡
       }
 
   -- so each name of a list
-  named_all : (p : PointerTerm) (rs : List Ref) → list_all (goes_to_name m) rs ≡ true → has_space tree p.space.name ≡ true →
+  named_all : (p : PointerTerm) (rs : List Ref) → has_space tree p.space.name ≡ true →
       list_any (is_wrong_region_of_pointer tree s.names p) rs ≡ false →
       AreAmong s.names (place_of_space tree p.space.name) (map (looked_up (in_scope s)) rs)
       × AreThere s.names (place_of_space tree p.space.name) (map (looked_up (in_scope s)) rs)
       × (has_wild (map (looked_up (in_scope s)) rs) ≡ false)
-  named_all p [] goes space right = (tt, tt, refl)
-  named_all p (Named n ∷ rs) goes space right =
-      let both = and_parts (takes_element m n) (list_all (goes_to_name m) rs) goes in
+  named_all p [] space right = (tt, tt, refl)
+  named_all p (Named n ∷ rs) space right =
       let apart = or_parts (not (names_a (is_region_in tree p) s.names n)) (list_any (is_wrong_region_of_pointer tree s.names p) rs) right in
       let named = and_parts (is_bound s.names n) (may_be (is_region_in tree p) (type_named s.names n))
       (not-false (names_a (is_region_in tree p) s.names n) apart.0) in
-      let is = named_of p n named.0 space (type_named s.names n) refl (named_kept keeping m s.names n names named.0) named.1 in
-      let more = named_all p rs both.1 space apart.1 in
+      let is = named_of p n named.0 space (type_named s.names n) refl (named_kept true s.names n names named.0) named.1 in
+      let more = named_all p rs space apart.1 in
       ((is.among, is.in_space, more.0), (is.there.0, is.there.1, is.there.2, more.1), more.2)
-  named_all p (Wild ∷ rs) goes space right = absurd (no_way_back goes)
+  named_all p (Wild ∷ rs) space right = absurd (no_way right)
 
-  pub pointer_said : (p : PointerTerm) → goes_to_names m p.regions ≡ true → first_in_type tree s.names (term.Pointer p) ≡ None →
-      IsSaid (written_pointer tree (in_scope s) p)
-  pointer_said p goes e =
+  pub pointer_said : (p : PointerTerm) → first_in_type tree s.names (term.Pointer p) ≡ None → IsSaid (written_pointer tree (in_scope s) p)
+  pointer_said p e =
       let a = option_or_parts _ _ e in
       let b = option_or_parts _ _ a.1 in
       let c = option_or_parts _ _ b.1 in
       let bound = or_parts (not (has_space tree p.space.name) || list_any (misses_region s.names) p.space.args) (list_any (misses_region s.names) p.regions)
       (rule_none (unbound_name_in_type tree s.names (term.Pointer p)) rule.Name a.0) in
       let space = not-false (has_space tree p.space.name) (or_parts (not (has_space tree p.space.name)) (list_any (misses_region s.names) p.space.args) bound.0).0 in
-      let named = names_keep m p.regions goes in
-      let some : (keeping ≡ true) × (list_all (goes_to_name m) p.regions ≡ true) = (keeps named.0, named.1) in
-      let named = named_all p p.regions some.1 space (rule_none (wrong_region_in_type tree s.names (term.Pointer p)) rule.Pointer c.0) in
+      let named = named_all p p.regions space (rule_none (wrong_region_in_type tree s.names (term.Pointer p)) rule.Pointer c.0) in
       let reaches = map (looked_up (in_scope s)) p.regions in record {
-        keep = some.0;
-        value = value_pointer p.kind (place_of_space tree p.space.name) _ reaches some.0 (among_goals s.names (place_of_space tree p.space.name) reaches named.0);
+        value = value_pointer p.kind (place_of_space tree p.space.name) _ reaches refl (among_goals s.names (place_of_space tree p.space.name) reaches named.0);
         written = (a_pointer_type _ _ _ reaches (names_aims reaches (names_among s.names (place_of_space tree p.space.name) reaches named.0)), named.1);
         certain = named.2;
       }
@@ -166,112 +155,85 @@ space_goes b bs known _ k (value_simple _ (simple_index j)) e = absurd (no_way_b
 space_goes b bs known _ k (value_simple _ simple_truth) e = absurd (no_way_back e)
 space_goes b bs known _ k (value_pointer j sp args i h r) e = absurd (no_way_back e)
 
--- what begins by itself may begin with an expression
-pub kept_said : (m : Marked) (n : Name) (t : TypeTerm) → is_kept_term m n t ≡ true → is_said_term m n t ≡ true
-kept_said m n (term.Number number.Int32) e = e
-kept_said m n (term.Number number.Int64) e = e
-kept_said m n (term.Number (number.Index k)) e = e
-kept_said m n term.Truth e = e
-kept_said m n (term.Pointer p) e = e
-kept_said m n (term.Ispace k) e = absurd (no_way_back e)
-kept_said m n (term.Region k u) e = absurd (no_way_back e)
-kept_said m n (term.Partition d r c) e = absurd (no_way_back e)
+-- whether a variable of a written type that is no region's and no partition's may begin by itself
+abbrev pub begins_alone : TypeTerm → Bool
+begins_alone (term.Ispace k) = false
+begins_alone (term.Region k u) = false
+begins_alone (term.Partition d r c) = false
+begins_alone t = true
 
-module _ (keeping : Bool) (m : Marked) (keeps : m.keeps ≡ true → keeping ≡ true) (tree : Tree) (s : Scope) (scope : IsSoundScope s) (names : AllKept keeping m s.names) where
-  -- a variable of a written type: what it is, and how it begins, by itself where it may, or with what fits
-  pub record IsVariable (n : Name) (t : TypeTerm) (u : StaticType) : Type 0 where
-    pub value : IsValue keeping s.names u
-    pub kept : IsKept keeping m s.names n s.next u
-    pub itself : is_kept_term m n t ≡ true → BeginsAs keeping s.names u
-    pub begins : (from : StaticType) → IsValue keeping s.names from → fits s.known from u ≡ true → BeginsWith keeping s.names from u
+module _ (tree : Tree) (s : Scope) (scope : IsSoundScope s) (names : AllKept true s.names) where
+  -- a variable of a written type that is no region's and no partition's: what it is, and how it begins, by itself where it may, or
+  -- with what fits
+  pub record IsVariable (t : TypeTerm) (u : StaticType) : Type 0 where
+    pub value : IsValue true s.names u
+    pub itself : begins_alone t ≡ true → BeginsAs true s.names u
+    pub begins : (from : StaticType) → IsValue true s.names from → fits s.known from u ≡ true → BeginsWith true s.names from u
 
-  scalar_variable : (n : Name) (t : TypeTerm) (u : StaticType) → IsScalar u → IsVariable n t u
-  scalar_variable n t u a = record {
+  scalar_variable : (t : TypeTerm) (u : StaticType) → IsScalar u → IsVariable t u
+  scalar_variable t u a = record {
     value = value_simple u (scalar_simple u a);
-    kept = kept_scalar u a;
-    itself = λ h. scalar_begins keeping s.names u a;
-    begins = λ from v e. alike_begins keeping s.names from u (value_fitting keeping s.names s.known from u v a e);
+    itself = λ h. scalar_begins true s.names u a;
+    begins = λ from v e. alike_begins true s.names from u (value_fitting true s.names s.known from u v a e);
   }
 
-  pub variable_said : (n : Name) (t : TypeTerm) → is_said_term m n t ≡ true → first_in_type tree s.names t ≡ None →
-      IsVariable n t (type_said tree (in_scope s) s.next t)
-  variable_said n (term.Number number.Int32) lo e = scalar_variable n _ _ (term_scalar (term.Number number.Int32) refl tree (in_scope s) s.next)
-  variable_said n (term.Number number.Int64) lo e = scalar_variable n _ _ (term_scalar (term.Number number.Int64) refl tree (in_scope s) s.next)
-  variable_said n term.Truth lo e = scalar_variable n _ _ scalar_truth
-  variable_said n (term.Number (number.Index k)) lo e =
-      let both = and_parts m.keeps (is_among m.indices n) lo in
-      let value = value_simple (index_type k) (simple_index k) in record {
-        value = value;
-        kept = kept_value (index_type k) value both.1 (λ p. absurd (no_way_back p));
-        itself = λ h. subst (λ b. BeginsAs b s.names (index_type k)) (sym (keeps both.0)) (itself_plain (index_type k) (zero_index k));
-        begins = λ from v fit. subst (λ b. BeginsWith b s.names from (index_type k)) (sym (keeps both.0))
-            (begins_plain from (index_type k) (index_goes keeping s.names s.known from k v fit));
-      }
-  variable_said n (term.Pointer p) lo e =
-      let one = and_parts (goes_to_names m p.regions) (is_among m.indices n && is_among m.pointers n) lo in
-      let two = and_parts (is_among m.indices n) (is_among m.pointers n) one.1 in
+  pub variable_said : (t : TypeTerm) → first_in_type tree s.names t ≡ None →
+      IsVariable t (type_said tree (in_scope s) s.next t) ⊎ IsCollection (type_said tree (in_scope s) s.next t)
+  variable_said (term.Number number.Int32) e = inl (scalar_variable _ _ (term_scalar (term.Number number.Int32) refl tree (in_scope s) s.next))
+  variable_said (term.Number number.Int64) e = inl (scalar_variable _ _ (term_scalar (term.Number number.Int64) refl tree (in_scope s) s.next))
+  variable_said term.Truth e = inl (scalar_variable _ _ scalar_truth)
+  variable_said (term.Number (number.Index k)) e = inl (record {
+    value = value_simple (index_type k) (simple_index k);
+    itself = λ h. (itself_plain (index_type k) (zero_index k));
+    begins = λ from v fit. (begins_plain from (index_type k) (index_goes true s.names s.known from k v fit));
+  })
+  variable_said (term.Pointer p) e =
       let u = written_pointer tree (in_scope s) p in
-      let is = pointer_said keeping m keeps tree s scope names p one.0 e in record {
+      let is = pointer_said tree s scope names p e in inl (record {
         value = is.value;
-        kept = kept_value u is.value two.0 (λ q. two.1);
-        itself = λ h. subst (λ b. BeginsAs b s.names u) (sym is.keep) (itself_null u is.written);
-        begins = λ from v fit. subst (λ b. BeginsWith b s.names from u) (sym is.keep)
-            (begins_pointer from u (pointer_fitting keeping s.names s.known from u v is.written.0 fit) is.written);
-      }
-  variable_said n (term.Ispace k) lo e =
-      let both = and_parts m.keeps (is_among m.indices n) lo in
-      let value = value_simple (ispace_type k) (simple_space k) in record {
-        value = value;
-        kept = kept_value (ispace_type k) value both.1 (λ p. absurd (no_way_back p));
-        itself = λ h. absurd (no_way_back h);
-        begins = λ from v fit. subst (λ b. BeginsWith b s.names from (ispace_type k)) (sym (keeps both.0))
-            (begins_plain from (ispace_type k) (space_goes keeping s.names s.known from k v fit));
-      }
-  variable_said n (term.Region k u) lo e = absurd (no_way_back lo)
-  variable_said n (term.Partition d r c) lo e = absurd (no_way_back lo)
+        itself = λ h. (itself_null u is.written);
+        begins = λ from v fit. (begins_pointer from u (pointer_fitting true s.names s.known from u v is.written.0 fit) is.written);
+      })
+  variable_said (term.Ispace k) e = inl (record {
+    value = value_simple (ispace_type k) (simple_space k);
+    itself = λ h. absurd (no_way_back h);
+    begins = λ from v fit. (begins_plain from (ispace_type k) (space_goes true s.names s.known from k v fit));
+  })
+  variable_said (term.Region k u) e = inr (collects_region k _ _ _)
+  variable_said (term.Partition d r c) e = inr (collects_partition d _ _)
 
 -- ---- expressions
 
-module _ (handing keeping : Bool) (task : TaskTree) (w : Where) (sound : IsSound w.tree) (sound_task : IsSoundTask w.tree task) (m : Marked)
-    (local : IsLocalTree handing keeping m w.tree) (scope : IsSoundScope w.scope) (names : AllKept keeping m w.scope.names) (head : KnowsHead m w.tree task w.scope) where
+module _ (task : TaskTree) (w : Where) (sound : IsSound w.tree) (sound_task : IsSoundTask w.tree task)
+    (local : IsLocalTree w.tree) (scope : IsSoundScope w.scope) (names : AllKept true w.scope.names) (head : KnowsHead w.tree task w.scope) where
   abbrev forms : Forms
-  forms = forms_by handing keeping w.tree task
+  forms = forms_by true true w.tree task
 
   abbrev Well : Expression → Type 0
-  Well e = IsWell handing keeping task w sound sound_task m local scope names head e
+  Well e = IsWell task w sound sound_task local scope names head e
 
-  abbrev known : (e : Expression) → first_in_expression w.tree task w.scope e ≡ None → known_type w.tree w.scope e ≡ typed w e
-  known e told = local_known handing keeping task w sound sound_task m local scope names head e told
+  abbrev Numbered : Expression → Type 0
+  Numbered e = IsNumbered task w sound sound_task local scope names head e
 
-  pub null_well : (p : PointerTerm) → goes_to_names m p.regions ≡ true → first_in_expression w.tree task w.scope (null_expr p) ≡ None → Well (null_expr p)
-  null_well p goes none =
-      let is = pointer_said keeping m local.keeps w.tree w.scope scope names p goes none in
-      record { is = (is.keep, is.written); value = is.value; scalar = λ q. absurd (no_way_back q); plain = λ q. absurd (no_way q) }
+  pub null_well : (p : PointerTerm) → first_in_expression w.tree task w.scope (null_expr p) ≡ None → Well (null_expr p)
+  null_well p none =
+      let is = pointer_said w.tree w.scope scope names p none in
+      record { is = (refl, is.written); value = is.value; points = λ q. refl }
 
-  pub cast_well : (p : PointerTerm) (e : Expression) → goes_to_names m p.regions ≡ true → first_in_expression w.tree task w.scope (cast_expr p e) ≡ None →
-      (first_in_expression w.tree task w.scope e ≡ None → Well e) → Well (cast_expr p e)
-  cast_well p e goes none own =
-      let told = option_or_parts (first_in_expression w.tree task w.scope e) _ none in
-      let a = own told.0 in
-      let more = option_or_parts (first_of_standing [] (stands (known_type w.tree w.scope e) number_spot)) _ told.1 in
-      let may = stands_well [] (typed w e) number_spot (subst (λ u. first_of_standing [] (stands u number_spot) ≡ None) (known e told.0) more.0) in
-      let counts = counting keeping (typed w e) (value_counts keeping w.scope.names (typed w e) a.value may) in
-      let is = pointer_said keeping m local.keeps w.tree w.scope scope names p goes more.1 in
-      record { is = (is.keep, is.written, counts, a.is, is.certain); value = is.value; scalar = λ q. absurd (no_way_back q); plain = λ q. absurd (no_way q) }
+  pub cast_well : (p : PointerTerm) (e : Expression) → Numbered e → first_in_type w.tree w.scope.names (term.Pointer p) ≡ None → Well (cast_expr p e)
+  cast_well p e a told =
+      let is = pointer_said w.tree w.scope scope names p told in
+      record { is = (refl, is.written, counting true (typed w e) a.counts, a.well.is, is.certain); value = is.value; points = λ q. refl }
 
   -- what may be a pointer is one, where pointers are kept
-  pointer_value : (t : StaticType) → IsValue keeping w.scope.names t → may_be is_pointer t ≡ true → (keeping ≡ true) × IsPointer t
+  pointer_value : (t : StaticType) → IsValue true w.scope.names t → may_be is_pointer t ≡ true → (true ≡ true) × IsPointer t
   pointer_value _ (value_simple _ (simple_integer v)) e = absurd (no_way_back e)
   pointer_value _ (value_simple _ simple_truth) e = absurd (no_way_back e)
   pointer_value _ (value_simple _ (simple_space k)) e = absurd (no_way_back e)
   pointer_value _ (value_simple _ (simple_index k)) e = absurd (no_way_back e)
   pointer_value _ (value_pointer k sp args i q r) e = (q, a_pointer_type k sp args i (goals_aims w.scope.names sp i r))
 
-  pub is_null_well : (e : Expression) → first_in_expression w.tree task w.scope (is_null_expr e) ≡ None →
-      (first_in_expression w.tree task w.scope e ≡ None → Well e) → Well (is_null_expr e)
-  is_null_well e none own =
-      let told = option_or_parts (first_in_expression w.tree task w.scope e) _ none in
-      let a = own told.0 in
-      let may = stands_well [] (typed w e) pointer_spot (subst (λ u. first_of_standing [] (stands u pointer_spot) ≡ None) (known e told.0) told.1) in
+  pub is_null_well : (e : Expression) → Well e → may_be is_pointer (typed w e) ≡ true → Well (is_null_expr e)
+  is_null_well e a may =
       let is = pointer_value (typed w e) a.value may in
-      scalar_well handing keeping task w sound sound_task m local scope names head (is_null_expr e) (is.0, is.1, a.is) scalar_truth
+      scalar_well task w sound sound_task local scope names head (is_null_expr e) (is.0, is.1, a.is) scalar_truth

@@ -1,23 +1,17 @@
--- Parameters of a task in a program of the form: what each takes, what its name stands for, and to which parameters its pointers go.
-use Rattle.std.proofs.Common.{◌≡◌, Bool, List, [], ◌∷◌, ◌++◌, Some, None, true, false, refl, ap, sym, subst, ◌∙◌, ℕ, zero, suc, ◌≤◌, ◌<◌, ◌+◌, inl, inr, ◌⊎◌, ⊎_elim, arith, cond}
-use Rattle.std.specs.Prelude.{bytes_eq, get_or, map, slice_get, ◌==◌, ◌&&◌, ◌||◌}
-use Rattle.std.specs.List.{All, list_all}
-use Rattle.std.proofs.lemmas.Bool.{and_parts, eqb-true}
-use Rattle.std.proofs.lemmas.List.{append_assoc, append-nil}
-use Rattle.std.proofs.lemmas.List.Elements.{All-cons, All-head, All-nil, All-tail}
-use Rattle.std.proofs.lemmas.Option.{none-some, same_Some}
-use Rattle.std.proofs.lemmas.Slice.Eq.{bytes_eq-Decides}
-use Rattle.regent_tree.proofs.Members.{Has, Has-append_cases}
+-- Parameters of a task: what each takes, what its name stands for, and to which parameters its pointers go.
+use Rattle.std.proofs.Common.{◌≡◌, Bool, List, [], ◌∷◌, ◌++◌, Some, None, true, refl, ap, subst, ◌∙◌, ℕ, suc, ◌+◌, ⊎_elim, arith}
+use Rattle.std.specs.Prelude.{get_or, map}
+use Rattle.std.specs.List.{All}
+use Rattle.std.proofs.lemmas.List.Elements.{All-head, All-tail}
+use Rattle.regent_tree.proofs.Members.{Has-append_cases}
 use Rattle.regent_tree.specs.Accesses.{space_in}
 use Rattle.regent_tree.specs.Limits.{WithinLimits}
 use Rattle.regent_tree.specs.Scopes.{bound_as, bound_params, scope_of, unbound}
 use Rattle.regent_tree.specs.StaticTypes.{Reach, among_params, looked_up, place_in, place_of_space, type_said}
-use Rattle.regent_tree.specs.Syntax.{Name, TaskTree, Tree}
+use Rattle.regent_tree.specs.Syntax.{TaskTree, Tree}
 use Rattle.regent_tree.specs.Typing.{reaches_of}
 use Rattle.regent_tree.specs.declared.facts.Term.TheVariants as place
 use Rattle.regent_tree.specs.declared.types.Param.{Param}
-use Rattle.regent_tree.specs.declared.types.Ref.{Ref}
-use Rattle.regent_tree.specs.declared.types.Ref.TheVariants.{Named, Wild}
 use Rattle.regent_tree.specs.declared.types.TypeTerm.{TypeTerm}
 use Rattle.regent_tree.specs.declared.types.NumberTerm.TheVariants as number
 use Rattle.regent_tree.specs.declared.types.TypeTerm.TheVariants as term
@@ -29,14 +23,12 @@ use Rattle.check_rules.specs.Breaches.{breaches}
 use Rattle.check_rules.specs.scopes.Sound.{StandsIn}
 use Rattle.check_rules.specs.types.Sorts.{is_region}
 use Rattle.expression_laws.proofs.Params.{numbered, param_as}
-use Rattle.local_form.specs.LocalForm.{Marked, are_local_params, goes_to_name, goes_to_names, is_among, is_index_or_space, is_local_param, is_partition_term, is_pointer_term, is_region_term, is_taken_term, marked_param, marked_params, takes_element, with_index, with_partition, with_pointer, with_region}
 use Rattle.state_laws.proofs.Declared.{HasRegions}
 use Rattle.state_laws.proofs.Texts.{body_begins, body_regions}
 use Rattle.value_laws.specs.Spaces.{HasParent, NamesRegionOf}
 use Rattle.code_laws.specs.Pointers.{AllGoToParams, AreThere, GoToParams, GoesToParams}
-use Rattle.code_laws.specs.Simple.{IsRegion, a_region_type, scalar_truth, simple_index, simple_space, term_in}
-use Rattle.code_laws.proofs.LocalMarks.{among_added, among_left}
-use Rattle.code_laws.proofs.LocalNames.{AllKept, AllKeptIn, IsKept, kept_partition, kept_region, kept_scalar, kept_value}
+use Rattle.code_laws.specs.Simple.{IsRegion, a_region_type, scalar_truth, simple_index, simple_space, term_in, simple_integer, simple_truth}
+use Rattle.code_laws.proofs.LocalNames.{AllKept, AllKeptIn, IsKept, kept_partition, kept_region, kept_value}
 use Rattle.code_laws.proofs.LocalPlaces.{HaveOwnTerms, numbered_among, region_numbered, regions_among}
 use Rattle.code_laws.proofs.LocalTypes.{IsTakable, takable_index, takable_partition, takable_pointer, takable_region, takable_scalar, takable_space, term_scalar}
 use Rattle.code_laws.proofs.LocalValues.{AreAmong, IsRegionAmong, value_pointer, value_simple, among_goals}
@@ -44,52 +36,17 @@ use Rattle.code_laws.proofs.Typing.{no_way_back}
 
 -- ---- what is written
 
--- pointers that go into regions that have names are kept
-pub names_keep : (m : Marked) (rs : List Ref) → goes_to_names m rs ≡ true → (m.keeps ≡ true) × (list_all (goes_to_name m) rs ≡ true)
-names_keep m [] e = absurd (no_way_back e)
-names_keep m (Wild ∷ rs) e = absurd (no_way_back e)
-names_keep m (Named n ∷ rs) e =
-    ((and_parts m.keeps _ (and_parts (takes_element m n) (list_all (goes_to_name m) rs) e).0).0, e)
-
-module _ (keeping : Bool) (tree : Tree) (all : List Param) where
+module _ (keeping : Bool) (keeps : keeping ≡ true) (tree : Tree) (all : List Param) where
   -- what a parameter takes, by its type
-  pub term_takable : (m : Marked) (n : Name) (t : TypeTerm) → is_taken_term m n t ≡ true → (m.keeps ≡ true → keeping ≡ true) → (own : ℕ) →
-      IsTakable keeping (type_said tree (among_params all) own t)
-  term_takable m n (term.Region k u) e keeps own = takable_region _ (a_region_type k _ _ _)
-  term_takable m n (term.Number number.Int32) e keeps own = takable_scalar _ (term_scalar (term.Number number.Int32) refl tree (among_params all) own)
-  term_takable m n (term.Number number.Int64) e keeps own = takable_scalar _ (term_scalar (term.Number number.Int64) refl tree (among_params all) own)
-  term_takable m n (term.Number (number.Index k)) e keeps own = takable_index k (keeps (and_parts m.keeps (is_among m.indices n) e).0)
-  term_takable m n term.Truth e keeps own = takable_scalar _ scalar_truth
-  term_takable m n (term.Pointer p) e keeps own = takable_pointer _ _ _ _ (keeps (names_keep m p.regions (and_parts (goes_to_names m p.regions) _ e).0).0)
-  term_takable m n (term.Ispace k) e keeps own = takable_space k (keeps (and_parts m.keeps (is_among m.indices n) e).0)
-  term_takable m n (term.Partition d r c) e keeps own = takable_partition _ _ _ (keeps (and_parts m.keeps (is_among m.partitions n) e).0)
-
--- ---- the marks of parameters
-
-param_regions : (p : Param) (m : Marked) (n : Name) → is_among m.regions n ≡ true → is_among (marked_param p m).regions n ≡ true
-param_regions p m n h = chosen (is_region_term p.term) (is_index_or_space p.term) (is_pointer_term p.term) (is_partition_term p.term)
-  where
-    chosen : (b c d f : Bool) →
-        is_among (cond b (with_region p.name m) (cond c (with_index p.name m) (cond d (with_pointer p.name m) (cond f (with_partition p.name m) m)))).regions n ≡ true
-    chosen true c d f = among_left m.regions (p.name ∷ []) n h
-    chosen false true d f = h
-    chosen false false true f = h
-    chosen false false false true = h
-    chosen false false false false = h
-
-marked_later : (ps : List Param) (m : Marked) (n : Name) → is_among m.regions n ≡ true → is_among (marked_params ps m).regions n ≡ true
-marked_later [] m n h = h
-marked_later (p ∷ ps) m n h = marked_later ps (marked_param p m) n (param_regions p m n h)
-
-pub marked_region : (ps : List Param) (m : Marked) (p : Param) → Has ps p → is_region_term p.term ≡ true → is_among (marked_params ps m).regions p.name ≡ true
-marked_region [] m p h e = absurd h
-marked_region (q ∷ ps) m p (inr h) e = marked_region ps (marked_param q m) p h e
-marked_region (q ∷ ps) m p (inl same) e =
-    let here : is_region_term q.term ≡ true = ap (λ (x : Param). is_region_term x.term) same ∙ e in
-    marked_later ps (marked_param q m) p.name
-    (subst (λ b. is_among (cond b (with_region q.name m) (cond (is_index_or_space q.term) (with_index q.name m)
-    (cond (is_pointer_term q.term) (with_pointer q.name m) (cond (is_partition_term q.term) (with_partition q.name m) m)))).regions p.name ≡ true) (sym here)
-    (among_added m.regions q.name p.name (ap (λ (x : Param). x.name) same)))
+  pub term_takable : (t : TypeTerm) (own : ℕ) → IsTakable keeping (type_said tree (among_params all) own t)
+  term_takable (term.Region k u) own = takable_region _ (a_region_type k _ _ _)
+  term_takable (term.Number number.Int32) own = takable_scalar _ (term_scalar (term.Number number.Int32) refl tree (among_params all) own)
+  term_takable (term.Number number.Int64) own = takable_scalar _ (term_scalar (term.Number number.Int64) refl tree (among_params all) own)
+  term_takable (term.Number (number.Index k)) own = takable_index k keeps
+  term_takable term.Truth own = takable_scalar _ scalar_truth
+  term_takable (term.Pointer p) own = takable_pointer _ _ _ _ keeps
+  term_takable (term.Ispace k) own = takable_space k keeps
+  term_takable (term.Partition d r c) own = takable_partition _ _ _ keeps
 
 -- ---- where pointers go
 
@@ -174,7 +131,7 @@ pointers_among tree t none within stands = go_from tree t.params 0 t.params (par
 
 -- ---- what the names of parameters stand for
 
-module _ (keeping : Bool) (tree : Tree) (all : List Param) (m : Marked) (keeps : m.keeps ≡ true → keeping ≡ true) where
+module _ (keeping : Bool) (keeps : keeping ≡ true) (tree : Tree) (all : List Param) where
   abbrev bounds : List Bound
   bounds = bound_params tree all 0 all
 
@@ -185,26 +142,19 @@ module _ (keeping : Bool) (tree : Tree) (all : List Param) (m : Marked) (keeps :
   HasParentAmong bs (partition_type d r p) = IsRegionAmong bs r
   HasParentAmong bs t = Unit {0}
 
-  -- a parameter is kept as what its mark says
-  param_kept : (bs : List Bound) (p : Param) (i : ℕ) (t : TypeTerm) → p.term ≡ t → is_taken_term m p.name t ≡ true →
-      (is_region_term p.term ≡ true → is_among m.regions p.name ≡ true) → AreAmong bs (space_in (type_at i t)) (reaches_of (type_at i t)) →
-      HasParentAmong bs (type_at i t) → IsKept keeping m bs p.name i (type_at i t)
-  param_kept bs p i (term.Region k u) same e marked among parent =
-      kept_region k (place_of_space tree u.name) (map (looked_up (among_params all)) u.args) (marked (ap is_region_term same))
-  param_kept bs p i (term.Number number.Int32) same e marked among parent = kept_scalar _ (term_scalar (term.Number number.Int32) refl tree (among_params all) i)
-  param_kept bs p i (term.Number number.Int64) same e marked among parent = kept_scalar _ (term_scalar (term.Number number.Int64) refl tree (among_params all) i)
-  param_kept bs p i (term.Number (number.Index k)) same e marked among parent =
-      kept_value (index_type k) (value_simple (index_type k) (simple_index k)) (and_parts m.keeps (is_among m.indices p.name) e).1 (λ q. absurd (no_way_back q))
-  param_kept bs p i term.Truth same e marked among parent = kept_scalar _ scalar_truth
-  param_kept bs p i (term.Pointer q) same e marked among parent =
-      let one = and_parts (goes_to_names m q.regions) (is_among m.indices p.name && is_among m.pointers p.name) e in
-      let two = and_parts (is_among m.indices p.name) (is_among m.pointers p.name) one.1 in
-      kept_value (type_at i (term.Pointer q)) (value_pointer _ _ _ _ (keeps (names_keep m q.regions one.0).0) (among_goals bs (space_in (type_at i (term.Pointer q))) (reaches_of (type_at i (term.Pointer q))) among)) two.0 (λ h. two.1)
-  param_kept bs p i (term.Ispace k) same e marked among parent =
-      kept_value (ispace_type k) (value_simple (ispace_type k) (simple_space k)) (and_parts m.keeps (is_among m.indices p.name) e).1 (λ q. absurd (no_way_back q))
-  param_kept bs p i (term.Partition d r c) same e marked among parent =
-      let both = and_parts m.keeps (is_among m.partitions p.name) e in
-      kept_partition d (place_in all r) (keeps both.0) parent both.1
+  -- a parameter is a value, the region of its number, or a partition
+  param_kept : (bs : List Bound) (i : ℕ) (t : TypeTerm) → AreAmong bs (space_in (type_at i t)) (reaches_of (type_at i t)) →
+      HasParentAmong bs (type_at i t) → IsKept keeping bs i (type_at i t)
+  param_kept bs i (term.Region k u) among parent = kept_region k (place_of_space tree u.name) (map (looked_up (among_params all)) u.args)
+  param_kept bs i (term.Number number.Int32) among parent = kept_value _ (value_simple _ (simple_integer _))
+  param_kept bs i (term.Number number.Int64) among parent = kept_value _ (value_simple _ (simple_integer _))
+  param_kept bs i (term.Number (number.Index k)) among parent = kept_value (index_type k) (value_simple (index_type k) (simple_index k))
+  param_kept bs i term.Truth among parent = kept_value _ (value_simple _ simple_truth)
+  param_kept bs i (term.Pointer q) among parent =
+      let t = type_at i (term.Pointer q) in
+      kept_value t (value_pointer _ _ _ _ keeps (among_goals bs (space_in t) (reaches_of t) among))
+  param_kept bs i (term.Ispace k) among parent = kept_value (ispace_type k) (value_simple (ispace_type k) (simple_space k))
+  param_kept bs i (term.Partition d r c) among parent = kept_partition d (place_in all r) keeps parent
 
   -- a parameter that is a region has its own term
   own_said : (i : ℕ) (t : TypeTerm) → is_region (type_at i t) ≡ true → IsRegion (type_at i t) × (term_in (type_at i t) ≡ place.Name i)
@@ -249,21 +199,16 @@ module _ (keeping : Bool) (tree : Tree) (all : List Param) (m : Marked) (keeps :
   parent_said no_type h = tt
   parent_said unknown_type h = tt
 
-  kept_behind : (bs : List Bound) (b : Bound) → AllKeptIn keeping m bounds bs → IsKept keeping m bounds b.name b.number b.static_type →
-      AllKeptIn keeping m bounds (bs ++ b ∷ [])
+  kept_behind : (bs : List Bound) (b : Bound) → AllKeptIn keeping bounds bs → IsKept keeping bounds b.number b.static_type →
+      AllKeptIn keeping bounds (bs ++ b ∷ [])
   kept_behind [] b a k = (k, tt)
   kept_behind (c ∷ bs) b a k = (a.0, kept_behind bs b a.1 k)
 
-  params_kept : (i : ℕ) (ps : List Param) → are_local_params m ps ≡ true →
-      ((p : Param) → Has ps p → is_region_term p.term ≡ true → is_among m.regions p.name ≡ true) → AreAmongParams tree all i ps →
-      AllKeptIn keeping m bounds (bound_params tree all i ps)
-  params_kept i [] e marked among = tt
-  params_kept i (p ∷ ps) e marked among =
-      let both = and_parts (is_local_param m p) (are_local_params m ps) e in
-      kept_behind (bound_params tree all (suc i) ps) (bound tree all i p) (params_kept (suc i) ps both.1 (λ q h. marked q (inr h)) among.2)
-      (param_kept bounds p i p.term refl both.0 (marked p (inl refl)) (among_params_said (type_at i p.term) among.0)
-      (parent_said (type_at i p.term) among.1))
+  params_kept : (i : ℕ) (ps : List Param) → AreAmongParams tree all i ps → AllKeptIn keeping bounds (bound_params tree all i ps)
+  params_kept i [] among = tt
+  params_kept i (p ∷ ps) among =
+      kept_behind (bound_params tree all (suc i) ps) (bound tree all i p) (params_kept (suc i) ps among.2)
+      (param_kept bounds i p.term (among_params_said (type_at i p.term) among.0) (parent_said (type_at i p.term) among.1))
 
-  pub all_kept : are_local_params m all ≡ true → ((p : Param) → Has all p → is_region_term p.term ≡ true → is_among m.regions p.name ≡ true) →
-      AreAmongParams tree all 0 all → AllKept keeping m bounds
-  all_kept e marked among = params_kept 0 all e marked among
+  pub all_kept : AreAmongParams tree all 0 all → AllKept keeping bounds
+  all_kept among = params_kept 0 all among

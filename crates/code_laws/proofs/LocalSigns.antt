@@ -1,6 +1,5 @@
 -- Prefixes before numbers and truths, and before what counts as a number, of which no breach is told.
-use Rattle.std.proofs.Common.{◌≡◌, Bool, List, [], ◌∷◌, None, false, true, refl, sym, subst, ℕ, ◌∙◌}
-use Rattle.std.proofs.lemmas.Bool.{and_parts}
+use Rattle.std.proofs.Common.{◌≡◌, Bool, List, [], ◌∷◌, None, false, true, refl, sym, subst, ℕ}
 use Rattle.plain_values.proofs.Plain.{option_or_parts}
 use Rattle.regent_tree.specs.StaticTypes.{Reach}
 use Rattle.regent_tree.specs.Syntax.{Expression, TaskTree, prefix_expr}
@@ -17,15 +16,16 @@ use Rattle.check_rules.specs.rules.Standing.{number_spot, spot_of_sign, stands, 
 use Rattle.check_rules.specs.scopes.Sound.{IsSound, IsSoundTask}
 use Rattle.check_rules.specs.types.KnownTypes.{known_type_after_sign, known_type_after_signs}
 use Rattle.code_rules.specs.Slots.{Where, typed}
-use Rattle.local_form.specs.LocalForm.{Marked, gives_scalar, has_sign, takes_signs}
+use Rattle.code_laws.specs.WrittenForms.{has_sign}
 use Rattle.code_laws.specs.Pointers.{AllMinus, HasSigns, IsCounting, SignedAs, counts_number, counts_pointer, signs_counted, signs_plain}
 use Rattle.code_laws.specs.Simple.{IsScalar, IsSimple, number_index, scalar_integer, scalar_truth, simple_index, simple_integer, simple_space, simple_truth}
 use Rattle.code_laws.proofs.KnownHeads.{KnowsHead}
 use Rattle.code_laws.proofs.LocalNames.{AllKept, IsLocalTree}
-use Rattle.code_laws.proofs.LocalPoints.{IsWell, scalar_well}
-use Rattle.code_laws.proofs.LocalValues.{IsValue, signs_as, value_pointer, value_simple}
-use Rattle.code_laws.proofs.Typing.{no_way, no_way_back, signed_scalar, signs_fit, stands_well}
+use Rattle.code_laws.proofs.LocalPoints.{IsWell, simple_well}
+use Rattle.code_laws.proofs.LocalValues.{IsValue, value_pointer, value_simple}
+use Rattle.code_laws.proofs.Typing.{no_way_back, signed_scalar, signs_fit, stands_well}
 use Rattle.code_laws.proofs.Values.{scalar_simple}
+use Rattle.code_laws.proofs.LocalTaken.{IsCollection, collected_number, collected_truth}
 
 -- ---- what counts as an index
 
@@ -69,6 +69,16 @@ no_space k [] some e = no_way_back some
 no_space k (sign ∷ []) some e = one_space k sign (option_or_parts (first_of_signs [] (ispace_type k)) _ e).1
 no_space k (sign ∷ (s ∷ ss)) some e = no_space k (s ∷ ss) refl (option_or_parts (first_of_signs (s ∷ ss) (ispace_type k)) _ e).0
 
+-- nor before a region or a partition
+one_collected : (t : StaticType) (sign : Sign) → IsCollection t → first_of_standing [] (stands t (spot_of_sign sign)) ≡ None → ⊥
+one_collected t Minus c e = collected_number t c (stands_well [] t number_spot e)
+one_collected t Not c e = collected_truth t c (stands_well [] t truth_spot e)
+
+pub none_collected : (t : StaticType) → IsCollection t → (signs : List Sign) → has_sign signs ≡ true → first_of_signs signs t ≡ None → ⊥
+none_collected t c [] some e = no_way_back some
+none_collected t c (sign ∷ []) some e = one_collected t sign c (option_or_parts (first_of_signs [] t) _ e).1
+none_collected t c (sign ∷ (s ∷ ss)) some e = none_collected t c (s ∷ ss) refl (option_or_parts (first_of_signs (s ∷ ss) t) _ e).0
+
 -- ---- values
 
 record IsSigned (b : Bool) (t : StaticType) (signs : List Sign) : Type 0 where
@@ -95,22 +105,13 @@ value_signed true bs _ signs q some (value_pointer k sp args i h r) e =
 
 -- ---- expressions
 
-module _ (handing keeping : Bool) (task : TaskTree) (w : Where) (sound : IsSound w.tree) (sound_task : IsSoundTask w.tree task) (m : Marked)
-    (local : IsLocalTree handing keeping m w.tree) (scope : IsSoundScope w.scope) (names : AllKept keeping m w.scope.names) (head : KnowsHead m w.tree task w.scope) where
+module _ (task : TaskTree) (w : Where) (sound : IsSound w.tree) (sound_task : IsSoundTask w.tree task)
+    (local : IsLocalTree w.tree) (scope : IsSoundScope w.scope) (names : AllKept true w.scope.names) (head : KnowsHead w.tree task w.scope) where
   abbrev Well : Expression → Type 0
-  Well e = IsWell handing keeping task w sound sound_task m local scope names head e
+  Well e = IsWell task w sound sound_task local scope names head e
 
-  pub signed_well : (signs : List Sign) (e : Expression) → Well e → (b : Bool) → gives_scalar m e ≡ b → takes_signs m signs b ≡ true →
-      first_of_signs signs (typed w e) ≡ None → Well (prefix_expr signs e)
-  signed_well signs e a true gives lo told =
-      let fit = signs_fit (typed w e) signs (a.scalar gives) told in
-      scalar_well handing keeping task w sound sound_task m local scope names head (prefix_expr signs e) (a.is, signs_as keeping (typed w e) signs fit)
-      (signed_scalar (typed w e) signs fit)
-  signed_well signs e a false gives lo told =
-      let both = and_parts m.keeps (has_sign signs) lo in
-      let is = value_signed keeping w.scope.names (typed w e) signs (local.keeps both.0) both.1 a.value told in record {
-        is = (a.is, is.fits);
-        value = value_simple (signed_type signs (typed w e)) is.simple;
-        scalar = λ h. absurd (no_way (sym h ∙ gives));
-        plain = λ h. is.simple;
-      }
+  pub signed_well : (signs : List Sign) (e : Expression) → Well e → has_sign signs ≡ true → first_of_signs signs (typed w e) ≡ None →
+      Well (prefix_expr signs e)
+  signed_well signs e a some told =
+      let is = value_signed true w.scope.names (typed w e) signs refl some a.value told in
+      simple_well task w sound sound_task local scope names head (prefix_expr signs e) (a.is, is.fits) is.simple

@@ -25,7 +25,6 @@ use Rattle.state_laws.specs.Going.{IsPlaceOfRun}
 use Rattle.state_laws.proofs.Growing.{spaced_new, spaced_stays, stays_bound}
 use Rattle.state_laws.proofs.Items.{taken_spaced}
 use Rattle.state_laws.proofs.VariableTypes.{variable_spaced}
-use Rattle.local_form.specs.LocalForm.{Marked}
 use Rattle.code_laws.specs.Handing.{told_in}
 use Rattle.code_laws.proofs.Told.{ToldUpTo}
 use Rattle.code_laws.specs.Simple.{IsScalar, scalar_integer, scalar_truth}
@@ -59,7 +58,7 @@ module _ (tree : Tree) (task : TaskTree) (sound : IsSound tree) (sound_task : Is
     line = 0;
   }
 
-  place_here : {m : Marked} (s : Scope) → IsSoundScope s → KnowsHead m tree task s → IsPlaceOfRun task [] (here s)
+  place_here : (s : Scope) → IsSoundScope s → KnowsHead tree task s → IsPlaceOfRun task [] (here s)
   place_here s scope head = record {
     place = record {
       sound = sound;
@@ -75,14 +74,14 @@ module _ (tree : Tree) (task : TaskTree) (sound : IsSound tree) (sound_task : Is
   }
 
   -- what an expression gives
-  pub expression_spaced : {m : Marked} (s : Scope) (e : Expression) → IsSoundScope s → KnowsHead m tree task s → AreKept (parts_of_expression e) →
+  pub expression_spaced : (s : Scope) (e : Expression) → IsSoundScope s → KnowsHead tree task s → AreKept (parts_of_expression e) →
       first_in_expression tree task s e ≡ None → IsSpaced tree s.names (type_of tree s e)
   expression_spaced s e scope head k none = type_spaced task [] (here s) (place_here s scope head).place e (all_kept (parts_of_expression e) k) none
 
   -- behind a variable
-  pub head_after : {m : Marked} (s : Scope) (n : Name) (t : Option TypeTerm) (i : Option Initializer) → IsSoundScope s → KnowsHead m tree task s →
-      first_of_form tree task s (var_form n t i) ≡ None → AreKept (parts_of_form (var_form n t i)) → KnowsFacts m tree task (scope_after tree s (var_form n t i)) →
-      ToldUpTo (told_in tree task) (scope_after tree s (var_form n t i)) → KnowsHead m tree task (scope_after tree s (var_form n t i))
+  pub head_after : (s : Scope) (n : Name) (t : Option TypeTerm) (i : Option Initializer) → IsSoundScope s → KnowsHead tree task s →
+      first_of_form tree task s (var_form n t i) ≡ None → AreKept (parts_of_form (var_form n t i)) → KnowsFacts tree task (scope_after tree s (var_form n t i)) →
+      ToldUpTo (told_in tree task) (scope_after tree s (var_form n t i)) → KnowsHead tree task (scope_after tree s (var_form n t i))
   head_after s n t i scope head none k facts told = record {
     facts = facts;
     spaced = variable_spaced task [] (here s) (place_here s scope head) n t i none (all_kept (parts_of_form (var_form n t i)) k);
@@ -91,8 +90,8 @@ module _ (tree : Tree) (task : TaskTree) (sound : IsSound tree) (sound_task : Is
   }
 
   -- where the body of a loop begins, of which the variable's type is so
-  loop_begins : {m : Marked} (s : Scope) (n : Name) (t : StaticType) → IsSoundScope s → KnowsHead m tree task s → IsSpaced tree s.names t →
-      KnowsFacts m tree task (with_name s n t true) → ToldUpTo (told_in tree task) (with_name s n t true) → KnowsHead m tree task (with_name s n t true)
+  loop_begins : (s : Scope) (n : Name) (t : StaticType) → IsSoundScope s → KnowsHead tree task s → IsSpaced tree s.names t →
+      KnowsFacts tree task (with_name s n t true) → ToldUpTo (told_in tree task) (with_name s n t true) → KnowsHead tree task (with_name s n t true)
   loop_begins s n t scope head spaced facts told =
       let b : Bound = record { name = n; number = s.next; place = length s.names; static_type = t; by_loop = true } in record {
         facts = facts;
@@ -103,10 +102,10 @@ module _ (tree : Tree) (task : TaskTree) (sound : IsSound tree) (sound_task : Is
       }
 
   -- of one over a region or an index space
-  pub head_in_loop : {m : Marked} (s : Scope) (n : Name) (domain : Expression) → IsSoundScope s → KnowsHead m tree task s →
+  pub head_in_loop : (s : Scope) (n : Name) (domain : Expression) → IsSoundScope s → KnowsHead tree task s →
       first_in_expression tree task s domain ≡ None → AreKept (parts_of_expression domain) →
-      KnowsFacts m tree task (with_name s n (taken_from (type_of tree s domain)) true) →
-      ToldUpTo (told_in tree task) (with_name s n (taken_from (type_of tree s domain)) true) → KnowsHead m tree task (with_name s n (taken_from (type_of tree s domain)) true)
+      KnowsFacts tree task (with_name s n (taken_from (type_of tree s domain)) true) →
+      ToldUpTo (told_in tree task) (with_name s n (taken_from (type_of tree s domain)) true) → KnowsHead tree task (with_name s n (taken_from (type_of tree s domain)) true)
   head_in_loop s n domain scope head none k facts told = loop_begins s n (taken_from (type_of tree s domain)) scope head
       (taken_spaced tree s.names (type_of tree s domain) (expression_spaced s domain scope head k none)) facts told
 
@@ -115,6 +114,6 @@ module _ (tree : Tree) (task : TaskTree) (sound : IsSound tree) (sound_task : Is
   scalar_spaced s _ scalar_truth = no_arguments tree s.names _ tt
 
   -- and of one over numbers
-  pub head_in_count : {m : Marked} (s : Scope) (n : Name) (t : StaticType) → IsSoundScope s → KnowsHead m tree task s → IsScalar t →
-      KnowsFacts m tree task (with_name s n t true) → ToldUpTo (told_in tree task) (with_name s n t true) → KnowsHead m tree task (with_name s n t true)
+  pub head_in_count : (s : Scope) (n : Name) (t : StaticType) → IsSoundScope s → KnowsHead tree task s → IsScalar t →
+      KnowsFacts tree task (with_name s n t true) → ToldUpTo (told_in tree task) (with_name s n t true) → KnowsHead tree task (with_name s n t true)
   head_in_count s n t scope head scalar facts told = loop_begins s n t scope head (scalar_spaced s t scalar) facts told

@@ -1,5 +1,5 @@
 -- What the types of a task's parameters tell: of which regions those that are partitions are.
-use Rattle.std.proofs.Common.{◌≡◌, ℕ, Bool, List, [], ◌∷◌, true, false, None, Some, ◌⊎◌, ⊎_elim, refl, ap, sym, subst, ◌∙◌, inl, inr, arith}
+use Rattle.std.proofs.Common.{◌≡◌, ℕ, Bool, true, false, None, Some, ◌⊎◌, ⊎_elim, refl, ap, sym, subst, ◌∙◌, inl, inr, arith}
 use Rattle.std.specs.Prelude.{cond, ◌==◌}
 use Rattle.std.proofs.lemmas.Bool.{eq-eqb, eqb-true}
 use Rattle.regent_tree.proofs.Members.{Has, Has-append_cases}

@@ -15,15 +15,15 @@ use Rattle.regent_tree.specs.declared.types.NumberTerm.TheVariants as number
 use Rattle.regent_tree.specs.declared.types.TypeTerm.{TypeTerm}
 use Rattle.regent_tree.specs.declared.types.TypeTerm.TheVariants as term
 use Rattle.regent_tree.specs.declared.typing.StaticType.{StaticType}
-use Rattle.regent_tree.specs.declared.typing.StaticType.TheVariants.{Index as index_type, Region as region_type, Truth as truth_type, Ispace as ispace_type, Pointer as pointer_type, Partition as partition_type}
+use Rattle.regent_tree.specs.declared.typing.StaticType.TheVariants.{Index as index_type, Region as region_type, Ispace as ispace_type, Pointer as pointer_type, Partition as partition_type}
 use Rattle.check_rules.specs.rules.Standing.{param_spot, stands}
 use Rattle.check_rules.specs.rules.Types.{compares_with, computes_with, has_equality_with, has_order_with, may_stand}
 use Rattle.check_rules.specs.rules.Spaces.{differs}
 use Rattle.check_rules.specs.types.Fitting.{fits, is_region_like}
 use Rattle.check_rules.specs.types.Sorts.{is_integer, is_number, is_partition, is_region, is_space, is_truth, is_unknown_type, may_be, same_kind}
-use Rattle.code_laws.specs.Simple.{AreAlike, AreComparable, AreRegions, FieldFits, IsInteger, IsNumber, IsRegion, IsScalar, IsSimple, IsSpace, IsTruth, a_region_type, a_space_type, a_truth_type, an_integer, compare_numbers, compare_truths, fits_32, fits_64, fits_truth, number_index, number_integer, scalar_integer, scalar_truth, simple_index, simple_integer, simple_space, simple_truth, two_integers, two_regions, two_truths, IsPartition, a_partition_type}
+use Rattle.code_laws.specs.Simple.{AreAlike, AreComparable, AreRegions, FieldFits, IsInteger, IsNumber, IsRegion, IsScalar, IsSimple, IsSpace, IsTruth, a_region_type, a_space_type, a_truth_type, an_integer, compare_numbers, compare_truths, fits_32, fits_64, fits_truth, number_index, number_integer, scalar_integer, scalar_truth, simple_index, simple_integer, simple_space, simple_truth, two_integers, two_regions, two_truths}
 use Rattle.scalar_form.specs.ScalarForm.{is_scalar_term}
-use Rattle.code_laws.proofs.Typing.{no_way, no_way_back}
+use Rattle.code_laws.proofs.Typing.{no_way_back}
 
 -- ---- what may be of a sort is of it
 
@@ -79,18 +79,11 @@ simple_no_partition _ simple_truth = refl
 simple_no_partition _ (simple_space k) = refl
 simple_no_partition _ (simple_index k) = refl
 
-pub simple_not_partition : (t : StaticType) → IsSimple t → IsPartition t → ⊥
-simple_not_partition _ a (a_partition_type d r p) = no_way (simple_no_partition _ a)
-
 pub simple_is_no_region : (t : StaticType) → IsSimple t → may_be is_region t ≡ false
 simple_is_no_region _ (simple_integer w) = refl
 simple_is_no_region _ simple_truth = refl
 simple_is_no_region _ (simple_space k) = refl
 simple_is_no_region _ (simple_index k) = refl
-
--- none of these is a region
-pub simple_other : (t : StaticType) → IsSimple t → IsRegion t → ⊥
-simple_other _ a (a_region_type k sp args r) = no_way (simple_is_no_region _ a)
 
 -- ---- what fits a number or truth
 
@@ -131,25 +124,6 @@ simple_for_region known _ _ (simple_integer v) (a_region_type k sp args r) e = n
 simple_for_region known _ _ simple_truth (a_region_type k sp args r) e = no_way_back e
 simple_for_region known _ _ (simple_space j) (a_region_type k sp args r) e = no_way_back e
 simple_for_region known _ _ (simple_index j) (a_region_type k sp args r) e = no_way_back e
-
-pub region_for_index : (known : List Known) (t : StaticType) (k : Kind) → IsRegion t → may_stand known (stands t (param_spot (index_type k))) ≡ true → ⊥
-region_for_index known _ k (a_region_type j sp args r) e = no_way_back e
-
-pub region_for_space : (known : List Known) (t : StaticType) (k : Kind) → IsRegion t → may_stand known (stands t (param_spot (ispace_type k))) ≡ true → ⊥
-region_for_space known _ k (a_region_type j sp args r) e = no_way_back e
-
-pub region_for_partition : (known : List Known) (t : StaticType) (d : Bool) (r p : ℕ) → IsRegion t →
-    may_stand known (stands t (param_spot (partition_type d r p))) ≡ true → ⊥
-region_for_partition known _ d r p (a_region_type j sq brgs u) e = no_way_back e
-
-pub region_for_pointer : (known : List Known) (t : StaticType) (k : Kind) (sp : ℕ) (args rs : List Reach) → IsRegion t →
-    may_stand known (stands t (param_spot (pointer_type k sp args rs))) ≡ true → ⊥
-region_for_pointer known _ k sp args rs (a_region_type j sq brgs r) e = no_way_back e
-
-pub region_for_scalar : (known : List Known) (t wanted : StaticType) → IsRegion t → IsScalar wanted →
-    may_stand known (stands t (param_spot wanted)) ≡ true → ⊥
-region_for_scalar known _ _ (a_region_type k sp args r) (scalar_integer w) e = no_way_back e
-region_for_scalar known _ _ (a_region_type k sp args r) scalar_truth e = no_way_back e
 
 -- a region of a parameter's kind and field space
 pub regions_alike : (types : List StaticType) (p t : StaticType) → IsRegion p → IsRegion t → (is_region p && differs types p t) ≡ false →
@@ -192,11 +166,6 @@ simple_truths t u a b e =
 compare_both : (t u : StaticType) → IsTruth t → IsTruth u → AreComparable t u
 compare_both _ _ a_truth_type a_truth_type = compare_truths
 
--- the first of two, where the second isn't so
-pub left_alone : (b : Bool) → (b || false) ≡ true → b ≡ true
-left_alone true e = refl
-left_alone false e = e
-
 -- of two truths one is
 pub either : (x y : Bool) → (x || y) ≡ true → (x ≡ true) ⊎ (y ≡ true)
 either true y e = inl refl
@@ -238,14 +207,3 @@ pub operated_simple : (o : Arithmetic) (t u : StaticType) → IsNumber t → IsN
 operated_simple o _ _ (number_integer v) (number_integer w) = simple_integer _
 operated_simple o _ _ (number_integer v) (number_index k) = simple_index k
 operated_simple o _ u (number_index k) b = simple_index k
-
--- a number that is a number or truth is an integer
-scalar_number : (t : StaticType) → IsScalar t → IsNumber t → IsInteger t
-scalar_number _ (scalar_integer w) n = an_integer w
-scalar_number _ scalar_truth n = absurd (no_way_back (number_is truth_type n))
-
-two_scalar : (o : Arithmetic) (t u : StaticType) → IsInteger t → IsInteger u → IsScalar (operated (Compute o) t u)
-two_scalar o _ _ (an_integer v) (an_integer w) = scalar_integer _
-
-pub operated_number : (o : Arithmetic) (t u : StaticType) → IsNumber t → IsNumber u → IsScalar t → IsScalar u → IsScalar (operated (Compute o) t u)
-operated_number o t u a b x y = two_scalar o t u (scalar_number t x a) (scalar_number u y b)

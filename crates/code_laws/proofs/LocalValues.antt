@@ -1,6 +1,6 @@
 -- What expressions give where nothing is told of their types: numbers, truths, indices and index spaces, and where they
 -- are kept also pointers into regions that have names.
-use Rattle.std.proofs.Common.{◌≡◌, Bool, List, [], ◌∷◌, ◌++◌, false, true, refl, ap, subst, sym, ℕ, ◌∙◌, ◌||◌, cond, not, inl, inr, ⊎_elim, ◌&&◌, ◌⊎◌}
+use Rattle.std.proofs.Common.{◌≡◌, Bool, List, [], ◌∷◌, false, true, refl, ap, subst, sym, ℕ, ◌∙◌, ◌||◌, cond, not, inl, inr, ⊎_elim, ◌&&◌, ◌⊎◌}
 use Rattle.std.proofs.lemmas.Bool.{and_parts}
 use Rattle.regent_tree.specs.Scopes.{known_of_type}
 use Rattle.regent_tree.specs.StaticTypes.{Reach}
@@ -11,7 +11,6 @@ use Rattle.regent_tree.specs.declared.expression.Comparison.{Comparison}
 use Rattle.regent_tree.specs.declared.expression.Comparison.TheVariants as comparison
 use Rattle.regent_tree.specs.declared.expression.Operator.{Operator}
 use Rattle.regent_tree.specs.declared.expression.Operator.TheVariants.{Compute}
-use Rattle.regent_tree.specs.declared.expression.Sign.{Sign}
 use Rattle.regent_tree.specs.declared.facts.Known.{Known}
 use Rattle.regent_tree.specs.declared.types.Kind.{Kind}
 use Rattle.regent_tree.specs.declared.types.NumberTerm.{NumberTerm}
@@ -25,12 +24,12 @@ use Rattle.check_rules.specs.types.KnownTypes.{known_type_after_operator}
 use Rattle.check_rules.specs.types.Sorts.{is_collection, is_integer, is_number, is_partition, is_region, is_space, is_truth, is_unknown_type, may_be}
 use Rattle.check_rules.specs.types.TypedForms.{computing}
 use Rattle.code_rules.specs.Slots.{Where, typed}
-use Rattle.code_laws.specs.Pointers.{Assigned, BeginsAs, BeginsWith, ConvertsTo, CountsAs, FillsInto, GoesInto, IsAssigned, IsCompared, IsPointer, IsRead, Passes, PassesInto, SignedAs, passes_plain, assigned_plain, assigned_pointer, begins_plain, compared_different, compared_equal, compared_left, compared_plain, compared_right, a_pointer_type, counts_number, counts_pointer, filled_plain, fills_alike, fills_index, into_index, into_plain, itself_plain, signs_plain, term_integer, zero_scalar}
-use Rattle.code_laws.specs.Simple.{AreAlike, AreComparable, IsInteger, IsIntegerTerm, IsNumber, IsRegion, IsScalar, IsSimple, IsSpace, IsTruth, SignsFit, a_region_type, number_index, number_integer, scalar_integer, scalar_truth, simple_index, simple_integer, simple_space, simple_truth, IsPartition, a_partition_type}
+use Rattle.code_laws.specs.Pointers.{Assigned, BeginsAs, BeginsWith, ConvertsTo, CountsAs, FillsInto, GoesInto, IsAssigned, IsCompared, IsPointer, IsRead, Passes, PassesInto, passes_plain, assigned_plain, assigned_pointer, begins_plain, compared_different, compared_equal, compared_left, compared_plain, compared_right, a_pointer_type, counts_number, counts_pointer, filled_plain, fills_alike, fills_index, into_index, into_plain, itself_plain, term_integer, zero_scalar}
+use Rattle.code_laws.specs.Simple.{AreAlike, AreComparable, IsInteger, IsIntegerTerm, IsNumber, IsRegion, IsScalar, IsSimple, IsSpace, IsTruth, a_region_type, number_index, number_integer, scalar_integer, scalar_truth, simple_index, simple_integer, simple_space, simple_truth, IsPartition, a_partition_type}
 use Rattle.code_laws.specs.Typed.{IsKeepable, LoopsOver, IsLooped, LoopsOverPart}
 use Rattle.code_laws.proofs.LocalTypes.{either, number_is, operated_simple, owned_simple, param_fitting, simple_as_domain, simple_as_integer, simple_as_number, simple_as_space, simple_as_truth, simple_compared, simple_computed, simple_fitting, simple_for_region, simple_is_no_region, simple_known, simple_no_partition}
 use Rattle.code_laws.proofs.Typing.{no_way, no_way_back}
-pub use Rattle.code_laws.proofs.LocalGoals.{AreAmong, AreGoals, IsCutAmong, IsRegionAmong, among_goals, among_there, bound_among, found_among, goals_aims, goals_among, goals_before, goals_behind, names_aims, names_among, region_before, region_behind}
+pub use Rattle.code_laws.proofs.LocalGoals.{AreAmong, AreGoals, IsCutAmong, IsRegionAmong, among_goals, among_there, bound_among, found_among, goals_aims, goals_among, goals_behind, names_aims, names_among, region_behind}
 
 -- ---- values
 
@@ -55,10 +54,6 @@ module _ (keeping : Bool) (bs : List Bound) where
   pub value_behind : (b : Bound) (t : StaticType) → Value t → IsValue keeping (b ∷ bs) t
   value_behind b t (value_simple _ a) = value_simple t a
   value_behind b _ (value_pointer k sp args i q r) = value_pointer k sp args i q (goals_behind b bs sp i r)
-
-  pub value_before : (more : List Bound) (t : StaticType) → Value t → IsValue keeping (bs ++ more) t
-  value_before more t (value_simple _ a) = value_simple t a
-  value_before more _ (value_pointer k sp args i q r) = value_pointer k sp args i q (goals_before bs more sp i r)
 
   -- ---- what may be of a sort is of it
 
@@ -222,10 +217,6 @@ value_compared true bs comparison.Greater _ _ (value_pointer k sp args i q r) (v
 value_compared true bs comparison.AtLeast _ _ (value_pointer k sp args i q r) (value_pointer j s brgs h p u) e = absurd (no_way_back e)
 
 -- ---- what is asked where pointers aren't kept holds where they may be
-
-pub signs_as : (b : Bool) (t : StaticType) (ss : List Sign) → SignsFit t ss → SignedAs b t ss
-signs_as false t ss p = p
-signs_as true t ss p = signs_plain t ss p
 
 pub alike_passes : (b : Bool) (t u p : StaticType) → AreAlike t u → u ≡ p → PassesInto b t u p
 alike_passes false t u p a e = (a, e)

@@ -2,15 +2,16 @@
 use Rattle.std.proofs.Common.{[], refl, arith}
 use Rattle.std.specs.Int.{int_wrap}
 use Rattle.regent_tree.specs.Limits.{WithinLimits, parts_of_program}
-use Rattle.code_laws.specs.LocalPrograms.{IsLocalProgramRun}
+use Rattle.code_laws.specs.AcceptedPrograms.{IsProgramRun}
 use Rattle.code_laws.specs.MinusExample.{MinusExampleHolds, minus_program}
 use Rattle.code_laws.proofs.LocalExample.{all_keep}
+use Rattle.code_laws.proofs.WrittenForms.{program_written}
 
 within : WithinLimits minus_program
 within = record { each = all_keep (parts_of_program minus_program) refl; nodes = omega (arith) }
 
-run : IsLocalProgramRun minus_program []
-run = record { within = within; accepted = refl; local = refl; numbers = tt }
+run : IsProgramRun minus_program []
+run = record { within = within; accepted = refl; written = program_written minus_program refl; numbers = tt }
 
 pub minus_example_holds : MinusExampleHolds
 unfolding int_wrap

@@ -1,5 +1,5 @@
 -- Elements of a part that has no name: it is put aside, and is there still when the second index has been computed.
-use Rattle.std.proofs.Common.{◌≡◌, ℕ, suc, ◌+◌, ◌^◌, ◌<◌, ◌≤◌, List, [], ◌∷◌, true, Some, refl, sym, ap, ◌∙◌, subst, arith}
+use Rattle.std.proofs.Common.{◌≡◌, ℕ, suc, ◌^◌, ◌<◌, ◌≤◌, List, [], ◌∷◌, true, refl, sym, ap, ◌∙◌, subst, arith}
 use Rattle.std.specs.Prelude.{get_or, length}
 use Rattle.std.proofs.lemmas.List.{get_or-set_same}
 use Rattle.plain_values.specs.Points.{has}
@@ -14,25 +14,24 @@ use Rattle.regent_tree.specs.Values.{Partition, Region, Value, a_partition, a_po
 use Rattle.regent_tree.specs.declared.typing.StaticType.{StaticType}
 use Rattle.regent_tree.specs.declared.typing.StaticType.TheVariants.{Partition as partition_type}
 use Rattle.task_code.specs.declared.code.Line.{Line}
-use Rattle.task_code.specs.declared.instr.Instr.TheVariants as instr
 use Rattle.machine_terms.specs.declared.order.Instance.{Instance}
 use Rattle.machine_terms.specs.declared.value.Value.{Value as MachineValue}
 use Rattle.machine_terms.specs.declared.value.Value.TheVariants as machine
 use Rattle.memory_laws.specs.Places.{number_at}
 use Rattle.code_rules.specs.Expressions.{expr_code, steps_code}
 use Rattle.code_rules.specs.Instructions.{load_code, slot_after, standing_code}
-use Rattle.code_rules.specs.Pieces.{op, past, ◌⨟◌}
+use Rattle.code_rules.specs.Pieces.{past, ◌⨟◌}
 use Rattle.code_rules.specs.Slots.{Where, own_slot, slot, spare, typed}
 use Rattle.code_laws.specs.Arguments.{IsCutName}
 use Rattle.code_laws.specs.Pointers.{IsCounting, IsOfPart}
 use Rattle.code_laws.specs.Simple.{IsPartition, IsRegion, a_partition_type, a_region_type}
-use Rattle.code_laws.specs.Standing.{Agrees, Aside, Comes, IsOf, LiesIn, SlotsFit, Stands, blank, machine_value, nothing, of_partition, where_of}
-use Rattle.code_laws.specs.Steps.{HasMore, Setting, placed}
+use Rattle.code_laws.specs.Standing.{Agrees, Aside, IsOf, LiesIn, SlotsFit, Stands, blank, machine_value, nothing, of_partition, where_of}
+use Rattle.code_laws.specs.Steps.{Setting, placed}
 use Rattle.code_laws.specs.Typed.{IsPiece}
 use Rattle.code_laws.proofs.Accesses.{HasRegion}
 use Rattle.code_laws.proofs.Good.{Gives, valued}
 use Rattle.code_laws.proofs.Handing.{part_stays}
-use Rattle.code_laws.proofs.Parts.{GoodPart, IsColoured, cut_of, parent_inside, part_at_colour, part_lies_in, part_of_name, steps_run}
+use Rattle.code_laws.proofs.Parts.{GoodPart, cut_of, parent_inside, part_at_colour, part_lies_in, part_of_name, steps_run}
 use Rattle.code_laws.proofs.Reaching.{region_lies_in}
 use Rattle.code_laws.proofs.Results.{spare_stored}
 use Rattle.code_laws.proofs.Runs.{Said, then}

@@ -1,29 +1,25 @@
 -- Fields of elements of a part that has no name: they are reached through the spare slot in which the part is.
-use Rattle.std.proofs.Common.{◌≡◌, false, ℕ, suc, ◌^◌, ◌<◌, ◌≤◌, List, [], ◌∷◌, Some, refl, sym, subst, arith}
+use Rattle.std.proofs.Common.{ℕ, suc, ◌^◌, ◌<◌, ◌≤◌, List, [], ◌∷◌, Some, refl, subst, arith}
 use Rattle.std.specs.Prelude.{get_or, length}
-use Rattle.plain_values.specs.Points.{has}
 use Rattle.lane_kernels.specs.declared.numbers.Mode.TheVariants as mode
-use Rattle.regent_tree.specs.Accesses.{space_in, take_field}
+use Rattle.regent_tree.specs.Accesses.{take_field}
 use Rattle.regent_tree.specs.Evaluation.{stepped, value}
-use Rattle.regent_tree.specs.Running.{Here, State, and_then, given}
+use Rattle.regent_tree.specs.Running.{Here, State}
 use Rattle.regent_tree.specs.Scopes.{Scope, bound_as, bound_to}
-use Rattle.regent_tree.specs.StaticTypes.{Reach}
 use Rattle.regent_tree.specs.Syntax.{Expression, Name, Steps, access_expr, at_step, field_step, no_step}
-use Rattle.regent_tree.specs.Typing.{parent_of, stepped_type, type_of_element, type_of_field}
+use Rattle.regent_tree.specs.Typing.{stepped_type, type_of_element, type_of_field}
 use Rattle.regent_tree.specs.Values.{Region, a_pointer, kept_target, no_region, point_target}
-use Rattle.regent_tree.specs.declared.facts.Colour.{Colour}
 use Rattle.regent_tree.specs.declared.facts.Term.TheVariants as term
-use Rattle.regent_tree.specs.declared.types.Kind.{Kind}
 use Rattle.regent_tree.specs.declared.typing.StaticType.{StaticType}
-use Rattle.regent_tree.specs.declared.typing.StaticType.TheVariants.{Pointer as pointer_type, Region as region_type}
+use Rattle.regent_tree.specs.declared.typing.StaticType.TheVariants.{Pointer as pointer_type}
 use Rattle.machine_terms.specs.declared.order.Instance.{Instance}
 use Rattle.machine_terms.specs.declared.value.Value.{Value as MachineValue}
 use Rattle.machine_terms.specs.declared.value.Value.TheVariants as machine
 use Rattle.code_rules.specs.Expressions.{expr_code, steps_code}
 use Rattle.code_rules.specs.Instructions.{field_code}
 use Rattle.code_rules.specs.Pieces.{past}
-use Rattle.code_rules.specs.Slots.{Where, bound, spare, typed}
-use Rattle.code_laws.specs.Pointers.{IsCounting, IsOfPart, IsPointed, IsPointer, a_pointer_type}
+use Rattle.code_rules.specs.Slots.{spare, typed}
+use Rattle.code_laws.specs.Pointers.{IsCounting, IsOfPart, IsPointed}
 use Rattle.code_laws.specs.Simple.{IsRegion, a_region_type}
 use Rattle.code_laws.specs.Standing.{Agrees, Aside, Comes, IsOf, SlotsFit, Stands, nothing, of_pointer, where_of}
 use Rattle.code_laws.specs.Steps.{Setting, placed}
@@ -33,7 +29,7 @@ use Rattle.code_laws.proofs.Behind.{then_given}
 use Rattle.code_laws.proofs.Further.{then_further}
 use Rattle.code_laws.proofs.Good.{Gives, Good, valued}
 use Rattle.code_laws.proofs.Knowing.{only_given, taken_pointed}
-use Rattle.code_laws.proofs.PartElements.{IsPut, RunsDeeper, after, elements_on, part_points}
+use Rattle.code_laws.proofs.PartElements.{RunsDeeper, after, elements_on, part_points}
 use Rattle.code_laws.proofs.PartTypes.{IsPartPointer, a_part_pointer, is_pointer_type, part_pointer}
 use Rattle.code_laws.proofs.Runs.{comes_said}
 use Rattle.code_laws.proofs.Through.{pointer_reads}

@@ -1,5 +1,5 @@
 -- The type of a part of a partition that has a name, and that of a pointer into it.
-use Rattle.std.proofs.Common.{◌≡◌, ℕ, ◌<◌, List, [], ◌∷◌, Some, refl, sym, ap, ◌∙◌, subst}
+use Rattle.std.proofs.Common.{◌≡◌, ℕ, List, [], ◌∷◌, Some, refl, sym, ap, ◌∙◌, subst}
 use Rattle.regent_tree.specs.Accesses.{space_in}
 use Rattle.regent_tree.specs.Scopes.{bound_as}
 use Rattle.regent_tree.specs.StaticTypes.{Reach}

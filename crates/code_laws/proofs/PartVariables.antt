@@ -1,7 +1,7 @@
 -- A variable that begins with an expression, also as a part of a partition that has a name, of a written type or not: its code
 -- does what it means.
 use Rattle.std.proofs.Common.{◌≡◌, ◌⊎◌, ℕ, suc, ◌≤◌, List, Option, None, Some, [], ⊎_elim, refl, sym, ap, ◌∙◌, subst}
-use Rattle.std.specs.Prelude.{get_or, length}
+use Rattle.std.specs.Prelude.{length}
 use Rattle.std.proofs.lemmas.Option.{same_Some}
 use Rattle.regent_tree.specs.Accesses.{converted, regions_reached, space_in}
 use Rattle.regent_tree.specs.Evaluation.{value}
@@ -12,7 +12,7 @@ use Rattle.regent_tree.specs.Scopes.{bound_as, bound_to}
 use Rattle.regent_tree.specs.StaticTypes.{Reach}
 use Rattle.regent_tree.specs.Syntax.{Expression, Name, access_expr, at_step, no_step, plain_initializer, var_form}
 use Rattle.regent_tree.specs.Typing.{owned, parent_of, reaches_of, var_type, colour_of, initializer_type}
-use Rattle.regent_tree.specs.Values.{Partition, Region, Value, a_region, region_of}
+use Rattle.regent_tree.specs.Values.{Region, Value, a_region, region_of}
 use Rattle.regent_tree.specs.declared.facts.Term.{Term}
 use Rattle.regent_tree.specs.declared.facts.Term.TheVariants as term
 use Rattle.regent_tree.specs.declared.types.Kind.{Kind}
@@ -27,7 +27,7 @@ use Rattle.code_rules.specs.Initializers.{initializer_code, new_place, plain_cod
 use Rattle.code_rules.specs.Pieces.{empty, op, past, ◌⨟◌}
 use Rattle.code_rules.specs.Slots.{slot, typed}
 use Rattle.code_rules.specs.Statements.{form_code}
-use Rattle.code_laws.specs.Pointers.{BeginsWith, IsCut, IsLike, IsPointed, like_region}
+use Rattle.code_laws.specs.Pointers.{BeginsWith, IsLike, IsPointed, like_region}
 use Rattle.code_laws.specs.Standing.{Agrees, Aside, Comes, Does, IsInside, IsOf, IsUnder, IsUnderName, LiesIn, SlotsFit, Stands, of_region, where_of}
 use Rattle.code_laws.specs.Steps.{Setting, Taking, placed}
 use Rattle.code_laws.specs.Taking.{BeginsWithin, IsHad, IsSubregion, BeginsAt}

@@ -1,7 +1,6 @@
 -- Assignments to fields of elements of a part that has no name.
-use Rattle.std.proofs.Common.{◌≡◌, false, ℕ, suc, ◌^◌, ◌<◌, ◌≤◌, List, [], ◌∷◌, Some, true, refl, sym, ap, ◌∙◌, subst, ℤ, arith}
+use Rattle.std.proofs.Common.{◌≡◌, ℕ, suc, ◌^◌, ◌<◌, ◌≤◌, [], ◌∷◌, Some, refl, sym, ap, ◌∙◌, subst, ℤ, arith}
 use Rattle.std.specs.Prelude.{get_or, length}
-use Rattle.lane_kernels.specs.declared.numbers.Mode.{Mode}
 use Rattle.lane_kernels.specs.declared.numbers.Mode.TheVariants as mode
 use Rattle.lane_kernels.specs.declared.numbers.Op.{Op}
 use Rattle.regent_tree.specs.Accesses.{aimed, space_in}
@@ -25,7 +24,7 @@ use Rattle.code_rules.specs.Expressions.{expr_code}
 use Rattle.code_rules.specs.Pieces.{past}
 use Rattle.code_rules.specs.Slots.{own_slot, spare, typed}
 use Rattle.code_rules.specs.Statements.{form_code}
-use Rattle.code_laws.specs.Pointers.{Assigned, FieldKeeps, IsCounting, IsOfPart}
+use Rattle.code_laws.specs.Pointers.{FieldKeeps, IsCounting, IsOfPart}
 use Rattle.code_laws.specs.Simple.{IsInteger, an_integer}
 use Rattle.code_laws.specs.Standing.{Agrees, Aside, Comes, Does, IsOf, SlotsFit, Stands, machine_value, of_integer, where_of}
 use Rattle.code_laws.specs.Steps.{Setting, placed}

@@ -29,7 +29,7 @@ runs z fits = record {
             inr (a_region_type _ _ _ _, record { number = 1; numbered = refl; place = refl; typed = a_region_type _ _ _ _; space = refl; is = refl }),
             (refl, tt),
             (
-              inl (inr (a_pointer_type _ _ _ _ tt, (omega arith, (omega arith, (omega arith, (omega arith, tt))))), (refl, tt)),
+              inl (inr (a_pointer_type _ _ _ _ tt, inl (omega arith, (omega arith, (omega arith, (omega arith, tt))))), (refl, tt)),
               (
                 (
                   refl,
@@ -78,7 +78,7 @@ runs z fits = record {
               inl (begins_pointer _ _ (a_pointer_type _ _ _ _ tt) (a_pointer_type _ _ _ _ tt, (refl, a_region_type _ _ _ _, refl, tt)), (refl, (a_pointer_type _ _ _ _ tt, (refl, a_region_type _ _ _ _, refl, tt)))),
               -- an element
               (
-                inl (inr (a_pointer_type _ _ _ _ tt, tt), (refl, omega (arith, ints), counts_number _ (number_integer _), refl, a_region_type _ _ _ _, record { number = 1; numbered = refl; place = refl; typed = a_region_type _ _ _ _; space = refl; is = refl })),
+                inl (inr (a_pointer_type _ _ _ _ tt, inl tt), (refl, omega (arith, ints), counts_number _ (number_integer _), refl, a_region_type _ _ _ _, record { number = 1; numbered = refl; place = refl; typed = a_region_type _ _ _ _; space = refl; is = refl })),
                 -- a cast
                 (
                   (assigned_pointer _ _ (a_pointer_type _ _ _ _ tt) (a_pointer_type _ _ _ _ tt), (refl, (a_pointer_type _ _ _ _ tt, (refl, a_region_type _ _ _ _, refl, tt)), counts_number _ (number_integer _), omega (arith, ints), refl), refl, tt),

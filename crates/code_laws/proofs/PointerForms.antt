@@ -29,13 +29,14 @@ use Rattle.code_laws.specs.Pointers.{AreThere, Begins, BeginsItself, IsPointed, 
 use Rattle.code_laws.specs.Simple.{IsRegion, IsSimple, a_region_type}
 use Rattle.code_laws.specs.Standing.{AreOf, Agrees, Aside, Does, IsInside, IsOf, SlotsFit, Stands, nothing, of_pointer, where_of, GoesToPart, blank, machine_value}
 use Rattle.code_laws.specs.Steps.{Setting, placed, machine_of, on_step, Forms}
-use Rattle.code_laws.specs.Typed.{CountsDown, IsPointing, IsTyped, element_field, field_behind}
+use Rattle.code_laws.specs.Typed.{CountsDown, IsPartElement, IsPointing, IsTyped, element_field, field_behind}
 use Rattle.code_laws.proofs.Written.{begins_written}
 use Rattle.code_laws.proofs.Expressions.{value_runs}
 use Rattle.code_laws.proofs.Good.{Gives, Good, pushes, valued}
 use Rattle.code_laws.proofs.Counting.{into_runs}
 use Rattle.code_laws.proofs.Knowing.{declared_pointed, pointing, then_known}
 use Rattle.code_laws.proofs.Moving.{pointer_into}
+use Rattle.code_laws.proofs.PartBegins.{part_element_begins}
 use Rattle.code_laws.proofs.PointerValues.{there_reached}
 use Rattle.code_laws.proofs.Pointing.{simple_pointed, named_pointed}
 use Rattle.code_laws.proofs.Under.{pointer_not_region, simple_not_region, type_under}
@@ -240,7 +241,8 @@ module _ (x : Setting) (params slots : ℕ) (fit : SlotsFit x slots) (counts : C
 
   -- `var n = e`
   pub begins_run : (aside : Aside 0) (h : Here) (n : Name) (e : Expression) (s : State) (pc : ℕ) (i : Instance) →
-      params ≤ length h.scope.names → IsSimple (typed (where_of params h) e) ⊎ (IsPointer (typed (where_of params h) e) × IsPointing (where_of params h) e) →
+      params ≤ length h.scope.names → IsSimple (typed (where_of params h) e)
+      ⊎ (IsPointer (typed (where_of params h) e) × (IsPointing (where_of params h) e ⊎ IsPartElement e)) →
       IsTyped x.forms (where_of params h) e → Agrees x params slots aside h s i →
       Stands x.body pc (form_code (where_of params h) (var_form n None (Some (plain_initializer e)))) →
       Does x params slots aside (placed pc [] i) (past (form_code (where_of params h) (var_form n None (Some (plain_initializer e)))) pc)
@@ -264,12 +266,14 @@ module _ (x : Setting) (params slots : ℕ) (fit : SlotsFit x slots) (counts : C
       (type_under x.forms.takes h.scope.names s1.names (owned h.scope.next t) v (subst (λ u. IsRegion u → ⊥) own (simple_not_region t simple)))
       (no_part_goes _ j.contents (length s1.store) (owned h.scope.next t) v (subst HasNoPart own (simple_no_part t simple))) k1.1 f2))
   begins_run aside h n e s pc i low (inr p) fine g f = ⊎_elim
-      (λ none. pointer_begins aside h n e s pc i low p.0 none p.1 fine g f)
+      (λ at. ⊎_elim
+      (λ none. pointer_begins aside h n e s pc i low p.0 none at fine g f)
       (λ m. subst (λ e. (IsTyped x.forms (where_of params h) e) → IsPointer (typed (where_of params h) e) → IsPointing (where_of params h) e →
       Stands x.body pc (form_code (where_of params h) (var_form n None (Some (plain_initializer e)))) →
       FormDoes (past (form_code (where_of params h) (var_form n None (Some (plain_initializer e)))) pc) aside h (var_form n None (Some (plain_initializer e))) s pc i)
-      (sym m.1) (λ fine p falls f. name_begins aside h n m.0 s pc i low fine.0 falls (bound_to h.scope.names m.0).static_type refl p fine g f) fine p.0 p.1 f)
-      (pointing_part x.forms (where_of params h) e fine p.1)
+      (sym m.1) (λ fine p falls f. name_begins aside h n m.0 s pc i low fine.0 falls (bound_to h.scope.names m.0).static_type refl p fine g f) fine p.0 at f)
+      (pointing_part x.forms (where_of params h) e fine at))
+      (λ is. part_element_begins x params slots fit counts aside h n e s pc i low is fine g f) p.1
 
   -- what it begins with is converted
   abbrev ConvertedCode : Here → TypeTerm → Expression → Piece

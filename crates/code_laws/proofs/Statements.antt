@@ -13,19 +13,19 @@ use Rattle.code_laws.proofs.Folds.{folds}
 use Rattle.code_laws.proofs.Loops.{counting_runs, integer_kept, loop_typed, turning_runs, from_fits, to_fits}
 use Rattle.code_rules.specs.Instructions.{place_of_task}
 use Rattle.code_laws.proofs.Rows.{IsAlike, asserts, does_as, does_before, does_said, returns, same_scope, scoped_by, tests, then_going, then_leads, relimit, jumps_later}
-use Rattle.std.proofs.Common.{◌≡◌, ℕ, suc, ◌<◌, ◌≤◌, [], ◌∷◌, ◌++◌, Some, None, refl, sym, ap, ◌∙◌, subst, arith, length-append, ⊎_elim}
+use Rattle.std.proofs.Common.{◌≡◌, ℕ, suc, ◌<◌, ◌≤◌, [], ◌∷◌, ◌++◌, Some, None, refl, sym, ap, ◌∙◌, subst, arith, length-append}
 use Rattle.std.specs.Prelude.{length, slice_get}
 use Rattle.std.proofs.lemmas.Option.{slice_get-get_or}
 use Rattle.std.proofs.lemmas.List.{get_or-set_same, get_or-set_other, append_assoc}
 use Rattle.regent_tree.specs.declared.statement.How.TheVariants as how
 use Rattle.regent_tree.specs.Scopes.{bound_to}
-use Rattle.regent_tree.specs.Syntax.{no_step, field_step, at_step, plain_initializer, a_statement, Form, var_form, if_form, while_form, for_to_form, do_form, assert_form, assign_form, return_form, call_form, fill_form, Block, no_statement, then_statement, Arms, no_arm, an_arm, Otherwise, no_else, else_block, both_initializer, by_field_initializer, either_initializer, equal_initializer, image_initializer, preimage_initializer, region_initializer, print_form, for_in_form}
-use Rattle.regent_tree.specs.Typing.{is_disjoint, taken_from, param_types, params_at, scope_after_block, arithmetic_type, width_of_type, var_type}
-use Rattle.regent_tree.specs.Values.{number_of, size_of}
-use Rattle.regent_tree.specs.Running.{State, Here, Run, and_then, given}
+use Rattle.regent_tree.specs.Syntax.{no_step, field_step, at_step, plain_initializer, a_statement, Form, var_form, if_form, while_form, for_to_form, do_form, assert_form, assign_form, return_form, call_form, fill_form, Block, no_statement, then_statement, Arms, no_arm, an_arm, Otherwise, no_else, else_block, print_form, for_in_form}
+use Rattle.regent_tree.specs.Typing.{taken_from, param_types, params_at, scope_after_block, arithmetic_type, width_of_type}
+use Rattle.regent_tree.specs.Values.{number_of}
+use Rattle.regent_tree.specs.Running.{State, Here, Run}
 use Rattle.regent_tree.specs.Accesses.{converted}
-use Rattle.regent_tree.specs.Evaluation.{called, static_type_of, value, values}
-use Rattle.regent_tree.specs.Execution.{Going, scoped, right_side, bind, looping, exec, exec_arms, exec_else, exec_block, on_line, after_statement, after_arm, after_arms}
+use Rattle.regent_tree.specs.Evaluation.{called, value, values}
+use Rattle.regent_tree.specs.Execution.{Going, scoped, right_side, looping, exec, exec_arms, exec_else, exec_block, on_line, after_statement, after_arm, after_arms}
 use Rattle.task_code.specs.declared.instr.Instr.TheVariants as instr
 use Rattle.regent_tree.specs.Numbers.{distance}
 use Rattle.machine_terms.specs.declared.value.Value.TheVariants as machine
@@ -38,7 +38,6 @@ use Rattle.code_rules.specs.Assignments.{right_code}
 use Rattle.code_laws.specs.Steps.{Setting, placed}
 use Rattle.code_laws.specs.Standing.{Stands, machine_value, blank, Aside, where_of, Agrees, SlotsFit, Does}
 use Rattle.code_laws.specs.Pointers.{HasZero}
-use Rattle.code_laws.specs.Simple.{a_partition_type, a_region_type}
 use Rattle.code_laws.specs.Typed.{CountsDown, element_field, field_behind, AreTypedArms, IsTypedBlock, IsTypedElse, IsTypedForm}
 use Rattle.code_laws.proofs.Runs.{leads_by, leads_none, leads_twice, ends_by, then, comes_said}
 use Rattle.code_laws.proofs.Values.{past_later}
@@ -53,9 +52,7 @@ use Rattle.regent_tree.specs.StaticTypes.{task_named}
 use Rattle.code_laws.proofs.PrintRuns.{values_run, prints}
 use Rattle.code_laws.proofs.Names.{form_grown, block_grown, arms_names, else_names}
 use Rattle.code_laws.proofs.States.{aside_stored, ready_value, stored, stores}
-use Rattle.code_laws.proofs.Began.{whole_fresh}
 use Rattle.code_laws.proofs.PartVariables.{plain_begins, said_begins}
-use Rattle.code_laws.proofs.Under.{type_under, whole_under}
 
 module _ (x : Setting) (params slots : ℕ) (fit : SlotsFit x slots) (counts : CountsDown) where
   -- ---- statements

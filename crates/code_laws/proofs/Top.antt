@@ -39,7 +39,7 @@ use Rattle.code_laws.proofs.Values.{not_true, number_inside}
 use Rattle.task_code.specs.declared.code.NeedCode.{NeedCode}
 use Rattle.regent_tree.specs.Store.{Touch}
 use Rattle.code_laws.specs.Handing.{AreTypedBy, HandingProgramsEndWell, RegionsAreHandedAsMeant, forms_by}
-use Rattle.code_laws.specs.LocalPrograms.{IsEnded}
+use Rattle.code_laws.specs.AcceptedPrograms.{IsEnded}
 use Rattle.code_laws.specs.Taking.{allows, given_region, is_asked}
 use Rattle.code_laws.specs.Pointers.{given_pointed}
 use Rattle.code_laws.specs.Programs.{AreTypedTasks, PointerCallsRunAsMeant, CallsRunAsMeant, call_forms, IsTypedRun, LeavesNoRoots, PointersRunAsMeant, RegionsRunAsMeant, RunsAsMeant, ScalarsRunAsMeant, entry_setting, job_of, pointer_forms, region_forms, scalar_forms}

@@ -44,9 +44,10 @@ use Rattle.check_rules.specs.declared.rule.Rule.TheVariants as rule
 use Rattle.check_rules.proofs.Untold.{rule_none}
 use Rattle.code_laws.specs.Pointers.{GivesBack, fills_alike, into_plain, zero_index, zero_scalar}
 use Rattle.code_laws.specs.Simple.{IsInteger, IsScalar, an_integer, scalar_integer, scalar_truth}
-use Rattle.local_form.specs.LocalForm.{is_local_result}
 use Rattle.code_laws.proofs.LocalValues.{IsValue, index_goes, value_fitting}
 use Rattle.code_laws.proofs.Typing.{no_way, no_way_back}
+use Rattle.check_rules.specs.types.Declarations.{is_no_result_type}
+use Rattle.code_laws.proofs.LocalTaken.{IsCollection, collects_partition, collects_region}
 
 pub sum_scalar : (t u : StaticType) → IsInteger t → IsInteger u → IsScalar (arithmetic_type t u)
 sum_scalar _ _ (an_integer v) (an_integer w) = scalar_integer _
@@ -148,7 +149,7 @@ counted n None e = absurd (no_way_back e)
 counted n (Some m) e = ap Some (sym (eqb-true n m e))
 
 -- a declared result and what fits it
-pub result_fits : (keeping : Bool) (bs : List Bound) (tree : Tree) (known : List Known) (r : Option TypeTerm) (from : StaticType) → is_local_result r ≡ true → is_none r ≡ false →
+pub result_fits : (keeping : Bool) (bs : List Bound) (tree : Tree) (known : List Known) (r : Option TypeTerm) (from : StaticType) → is_no_result_type r ≡ false → is_none r ≡ false →
     IsValue keeping bs from → fits known from (known_result tree r) ≡ true → GivesBack from (result_type tree r)
 result_fits keeping bs tree known None from sc some value e = absurd (no_way some)
 result_fits keeping bs tree known (Some (term.Number number.Int32)) from sc some value e =
@@ -158,7 +159,24 @@ result_fits keeping bs tree known (Some (term.Number number.Int64)) from sc some
 result_fits keeping bs tree known (Some (term.Number (number.Index k))) from sc some value e = (index_goes keeping bs known from k value e, zero_index k)
 result_fits keeping bs tree known (Some term.Truth) from sc some value e =
     (into_plain from _ (fills_alike from _ (value_fitting keeping bs known from truth_type value scalar_truth e)), zero_scalar _ scalar_truth)
-result_fits keeping bs tree known (Some (term.Pointer p)) from sc some value e = absurd (no_way_back sc)
-result_fits keeping bs tree known (Some (term.Ispace k)) from sc some value e = absurd (no_way_back sc)
-result_fits keeping bs tree known (Some (term.Region k u)) from sc some value e = absurd (no_way_back sc)
-result_fits keeping bs tree known (Some (term.Partition d r c)) from sc some value e = absurd (no_way_back sc)
+result_fits keeping bs tree known (Some (term.Pointer p)) from sc some value e = absurd (no_way sc)
+result_fits keeping bs tree known (Some (term.Ispace k)) from sc some value e = absurd (no_way sc)
+result_fits keeping bs tree known (Some (term.Region k u)) from sc some value e = absurd (no_way sc)
+result_fits keeping bs tree known (Some (term.Partition d r c)) from sc some value e = absurd (no_way sc)
+
+-- no region and no partition fits one
+pub result_collected : (known : List Known) (tree : Tree) (r : Option TypeTerm) (t : StaticType) → is_no_result_type r ≡ false → is_none r ≡ false →
+    IsCollection t → fits known t (known_result tree r) ≡ true → ⊥
+result_collected known tree None t sc some c e = no_way some
+result_collected known tree (Some (term.Number number.Int32)) _ sc some (collects_region k sp args r) e = no_way_back e
+result_collected known tree (Some (term.Number number.Int64)) _ sc some (collects_region k sp args r) e = no_way_back e
+result_collected known tree (Some (term.Number (number.Index j))) _ sc some (collects_region k sp args r) e = no_way_back e
+result_collected known tree (Some term.Truth) _ sc some (collects_region k sp args r) e = no_way_back e
+result_collected known tree (Some (term.Number number.Int32)) _ sc some (collects_partition d r p) e = no_way_back e
+result_collected known tree (Some (term.Number number.Int64)) _ sc some (collects_partition d r p) e = no_way_back e
+result_collected known tree (Some (term.Number (number.Index j))) _ sc some (collects_partition d r p) e = no_way_back e
+result_collected known tree (Some term.Truth) _ sc some (collects_partition d r p) e = no_way_back e
+result_collected known tree (Some (term.Pointer p)) t sc some c e = no_way sc
+result_collected known tree (Some (term.Ispace k)) t sc some c e = no_way sc
+result_collected known tree (Some (term.Region k u)) t sc some c e = no_way sc
+result_collected known tree (Some (term.Partition d r q)) t sc some c e = no_way sc

@@ -12,7 +12,7 @@ use Rattle.code_laws.specs.Pointers.{AreCompared, Assigned, Begins, BeginsAs, Be
 use Rattle.code_laws.specs.Simple.{IsNumber, IsSimple, IsSpace, number_index, number_integer, scalar_integer, scalar_truth, simple_index, simple_integer, simple_space, simple_truth, two_integers, two_truths}
 use Rattle.regent_tree.specs.Syntax.{Expression}
 use Rattle.code_rules.specs.Slots.{typed}
-use Rattle.code_laws.specs.Typed.{IsAnyField, IsBegun, IsDifference, IsFieldOf, IsKeepable, IsNamedRegion, IsPointing, LoopsOver, IsLooped, IsSaid, LoopsOverPart}
+use Rattle.code_laws.specs.Typed.{IsAnyField, IsBegun, IsDifference, IsFieldOf, IsKeepable, IsNamedRegion, IsPartElement, IsPointing, LoopsOver, IsLooped, IsSaid, LoopsOverPart}
 use Rattle.code_laws.proofs.Values.{not_true}
 
 pub counting : (b : Bool) (t : StaticType) → CountsAs b t → IsCounting t
@@ -62,7 +62,8 @@ counted _ (counts_number _ (number_index k)) = number_index k
 counted _ (counts_pointer k sp args rs) = number_index k
 
 -- how a variable begins, and over what a loop goes
-pub keepable : (b : Bool) (w : Where) (e : Expression) → IsKeepable b w e → IsSimple (typed w e) ⊎ (IsPointer (typed w e) × IsPointing w e)
+pub keepable : (b : Bool) (w : Where) (e : Expression) → IsKeepable b w e →
+    IsSimple (typed w e) ⊎ (IsPointer (typed w e) × (IsPointing w e ⊎ IsPartElement e))
 keepable false w e p = inl p
 keepable true w e p = p
 

@@ -9,7 +9,7 @@ use Rattle.regent_tree.specs.declared.typing.StaticType.TheVariants.{Partition a
 use Rattle.regent_tree.specs.Accesses.{space_in}
 use Rattle.regent_tree.specs.StaticTypes.{field_kind, field_place, field_term, space_at}
 use Rattle.regent_tree.specs.Lookup.{is_bound}
-use Rattle.regent_tree.specs.Syntax.{Name, Expression, chain_expr, access_expr, no_link, a_link, no_step, field_step, at_step, null_expr, cast_expr}
+use Rattle.regent_tree.specs.Syntax.{Name, Expression, Steps, chain_expr, access_expr, no_link, a_link, no_step, field_step, at_step, null_expr, cast_expr}
 use Rattle.regent_tree.specs.Scopes.{bound_as}
 use Rattle.regent_tree.specs.Typing.{has_wild, is_disjoint, parent_of, reaches_of, taken_from, type_of_element, type_of_field}
 use Rattle.code_laws.specs.Arguments.{ArePaired, IsCutName}
@@ -105,6 +105,12 @@ part_element w n e i = type_of_element w.scope (type_of_element w.scope (bound w
 abbrev pub AreReachable : Where → StaticType → Type 0
 AreReachable w t = AreThere w.scope.names (space_in t) (reaches_of t)
 
+-- fields alone: each is one of what the field before it goes to
+abbrev pub are_fields : Steps → Bool
+are_fields no_step = true
+are_fields (field_step f rest) = are_fields rest
+are_fields (at_step e rest) = false
+
 -- an expression that gives a pointer of which the regions are known: a name, an element, a field, null, or a cast
 abbrev pub IsPointing : Where → Expression → Type 0
 IsPointing w (access_expr n no_step) = Falls w.scope.next w.scope.names
@@ -118,10 +124,15 @@ IsPointing w (null_expr t) = Unit {0}
 IsPointing w (cast_expr t e) = Unit {0}
 IsPointing w e = ⊥
 
+-- or an element of a part that has no name
+abbrev pub IsPartElement : Expression → Type 0
+IsPartElement (access_expr n (at_step e (at_step i no_step))) = Unit {0}
+IsPartElement e = ⊥
+
 -- how a variable begins: as a number, a truth or an index space, or where pointers are kept as such a pointer
 abbrev pub IsKeepable : Bool → Where → Expression → Type 0
 IsKeepable false w e = IsSimple (typed w e)
-IsKeepable true w e = IsSimple (typed w e) ⊎ (IsPointer (typed w e) × IsPointing w e)
+IsKeepable true w e = IsSimple (typed w e) ⊎ (IsPointer (typed w e) × (IsPointing w e ⊎ IsPartElement e))
 
 -- the difference of two partitions of one region
 abbrev pub IsDifference : Where → Expression → Type 0

@@ -1,5 +1,5 @@
 -- An accepted program with a task that gives an index, which a variable begins with and is assigned.
-use Rattle.std.specs.Prelude.{◌≡◌, [], ◌∷◌, false, pos}
+use Rattle.std.specs.Prelude.{◌≡◌, [], ◌∷◌, pos}
 use Rattle.regent_tree.specs.Meaning.{meaning}
 use Rattle.regent_tree.specs.Syntax.{Tree, convert_expr}
 use Rattle.regent_tree.specs.declared.expression.Arithmetic.TheVariants.{Add, Remainder}
@@ -7,8 +7,7 @@ use Rattle.regent_tree.specs.declared.outcome.FaultKind.TheVariants.{DivideByZer
 use Rattle.regent_tree.specs.declared.types.Kind.TheVariants.{Int1d}
 use Rattle.regent_tree.specs.declared.types.NumberTerm.TheVariants.{Index, Int32}
 use Rattle.worked_examples.specs.Words.{calc, call_of, faults, get, give, int, item, line, number, param, print, prints, set, task, task_giving, var}
-use Rattle.local_form.specs.LocalForm.{gives_scalar, marked_by_items, unmarked}
-use Rattle.code_laws.specs.LocalPrograms.{IsLocalProgramRun}
+use Rattle.code_laws.specs.AcceptedPrograms.{IsProgramRun}
 
 --     task next(k : int1d, n : int) : int1d
 --       return (k + 1) % n
@@ -31,11 +30,10 @@ giving_program =
     ∷ []))
     ∷ []
 
--- Each premise of the law holds of it. What the call gives is no number or truth; with 3 the program goes from 2 by 0 to 1, and
+-- Each premise of the law holds of it. With 3 the program goes from 2 by 0 to 1, and
 -- with 0 it divides by 0 in the called task.
 pub record GivenExampleHolds : Type 0 where
-  pub run : IsLocalProgramRun giving_program (pos 3 ∷ [])
-  pub gives : gives_scalar (marked_by_items giving_program unmarked) (call_of "next" (int 2 ∷ get "n" ∷ [])) ≡ false
+  pub run : IsProgramRun giving_program (pos 3 ∷ [])
   pub end_is : meaning giving_program (pos 3 ∷ []) 100 ≡ prints "1\n" []
-  pub fault_run : IsLocalProgramRun giving_program (pos 0 ∷ [])
+  pub fault_run : IsProgramRun giving_program (pos 0 ∷ [])
   pub fault_is : meaning giving_program (pos 0 ∷ []) 100 ≡ faults "" DivideByZero 2

@@ -8,7 +8,7 @@ use Rattle.regent_tree.specs.declared.facts.Known.{Known}
 use Rattle.code_rules.specs.Instructions.{tasks_of}
 use Rattle.code_rules.specs.Pieces.{lines}
 use Rattle.code_rules.specs.Programs.{body_piece, place_of, task_code}
-use Rattle.code_laws.specs.LocalPrograms.{EndsWell}
+use Rattle.code_laws.specs.AcceptedPrograms.{EndsWell}
 use Rattle.code_laws.specs.Programs.{IsGiven, IsTypedRun, RunsAsMeant}
 use Rattle.code_laws.specs.Steps.{Forms, Taking}
 use Rattle.code_laws.specs.Above.{above_in, piece_in}

@@ -13,7 +13,7 @@ use Rattle.regent_tree.specs.declared.types.NumberTerm.TheVariants.{Int64}
 use Rattle.machine_terms.specs.Jobs.{order_run}
 use Rattle.worked_examples.specs.Words.{access, at, calc, call, call_of, dot, faults, field_space, fields, get, give, grants, int, item, line, naturals, new_region, number, param, print, prints, reduce, region, root, set, space, space_of, task, task_giving, var_from}
 use Rattle.code_laws.specs.Handing.{AreTypedBy, forms_by}
-use Rattle.code_laws.specs.LocalPrograms.{IsLocalProgramRun}
+use Rattle.code_laws.specs.AcceptedPrograms.{IsProgramRun}
 use Rattle.code_laws.specs.Programs.{IsTypedRun, job_of}
 
 --     fspace f { x : int64 }
@@ -59,7 +59,7 @@ handing_program =
 -- so does its code, run in order; with one point the task that is called by a called task faults; and with two turns the
 -- third call is a fault.
 pub record HandingExampleHolds : Type 0 where
-  pub accepted : IsLocalProgramRun handing_program (pos 2 ∷ [])
+  pub accepted : IsProgramRun handing_program (pos 2 ∷ [])
   pub runs : order_run (job_of handing_program (pos 2 ∷ []) 5) ≡ prints "20\n" (root 0 2 (naturals (10 ∷ 20 ∷ []) ∷ []) ∷ [])
   pub tasks : AreTypedBy true false handing_program
   pub run : IsTypedRun (forms_by true false handing_program (task_named handing_program (entry_name handing_program))) handing_program (pos 2 ∷ [])

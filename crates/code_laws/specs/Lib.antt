@@ -12,14 +12,16 @@ pub mod Typed
 pub mod Programs
 pub mod Handing
 pub mod ScalarPrograms
-pub mod LocalPrograms
+pub mod AcceptedPrograms
 pub mod LocalExample
 pub mod GivenExample
 pub mod MinusExample
 pub mod Example
 pub mod RegionExample
 pub mod PointerExample
+pub mod PlainBodies
 pub mod PointerCallExample
 pub mod CallExample
 pub mod HandingExample
 pub mod Privileges
+pub mod WrittenForms

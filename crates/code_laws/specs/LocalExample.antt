@@ -9,7 +9,7 @@ use Rattle.regent_tree.specs.declared.expression.Comparison.TheVariants.{Greater
 use Rattle.regent_tree.specs.declared.outcome.FaultKind.TheVariants.{AssertFailed}
 use Rattle.regent_tree.specs.declared.types.NumberTerm.TheVariants.{Int32, Int64}
 use Rattle.worked_examples.specs.Words.{access, at, calc, call, call_of, compare, count, dot, each, faults, field_space, fill, get, give, int, item, line, naturals, new_region, number, param, print, prints, reduce, root, set, space, space_of, task, task_giving, var, var_from, when}
-use Rattle.code_laws.specs.LocalPrograms.{IsKeptProgramRun, IsLocalProgramRun}
+use Rattle.code_laws.specs.AcceptedPrograms.{IsProgramRun, IsPlainProgramRun}
 
 --     fspace bin { count : int, share : int64 }
 --     task bin_of(n : int) : int
@@ -69,9 +69,9 @@ local_program =
 
 -- Each premise of the law holds of it. With 5 for its number it ends with its root, with 7 the assertion fails.
 pub record LocalExampleHolds : Type 0 where
-  pub run : IsLocalProgramRun local_program (pos 5 ∷ [])
-  pub kept : IsKeptProgramRun local_program (pos 5 ∷ [])
+  pub run : IsProgramRun local_program (pos 5 ∷ [])
+  pub plain : IsPlainProgramRun local_program (pos 5 ∷ [])
   pub end_is : meaning local_program (pos 5 ∷ []) 100 ≡ prints "20\n3\n"
       (root 0 3 (naturals (2 ∷ 2 ∷ 1 ∷ []) ∷ naturals (20 ∷ 20 ∷ 10 ∷ []) ∷ []) ∷ [])
-  pub fault_run : IsLocalProgramRun local_program (pos 7 ∷ [])
+  pub fault_run : IsProgramRun local_program (pos 7 ∷ [])
   pub fault_is : meaning local_program (pos 7 ∷ []) 100 ≡ faults "" AssertFailed 22

@@ -6,7 +6,7 @@ use Rattle.regent_tree.specs.Syntax.{Tree}
 use Rattle.regent_tree.specs.declared.expression.Arithmetic.TheVariants.{Subtract}
 use Rattle.regent_tree.specs.declared.types.NumberTerm.TheVariants.{Int64}
 use Rattle.worked_examples.specs.Words.{access, at, calc, dot, each, equal, field_space, get, int, item, line, naturals, new_region, number, param, partition, prints, region, root, set, space, space_of, task, var_as, var_from}
-use Rattle.code_laws.specs.LocalPrograms.{IsLocalProgramRun}
+use Rattle.code_laws.specs.AcceptedPrograms.{IsProgramRun}
 
 --     fspace f { x : int64 }
 --     task main()
@@ -33,5 +33,5 @@ minus_program =
 
 -- Each premise of the law holds of it. What p has at its colour is taken off by what q has at the same one, which is the first point.
 pub record MinusExampleHolds : Type 0 where
-  pub run : IsLocalProgramRun minus_program []
+  pub run : IsProgramRun minus_program []
   pub end_is : meaning minus_program [] 100 ≡ prints "" (root 0 3 (naturals (0 ∷ 7 ∷ 7 ∷ []) ∷ []) ∷ [])

@@ -27,10 +27,9 @@ use Rattle.code_laws.specs.Taking.{BeginsAt, BeginsWhole, BeginsWithin, MayChang
 use Rattle.code_rules.specs.Slots.{Where, typed, bound}
 use Rattle.code_rules.specs.Expressions.{count}
 use Rattle.code_rules.specs.Statements.{on_line, after_form, after_arm, after_arms, looping}
-use Rattle.local_form.specs.LocalForm.{are_fields}
 use Rattle.check_rules.specs.rules.Formats.{numbers_in}
 pub use Rattle.code_laws.specs.Counting.{CountsDown}
-pub use Rattle.code_laws.specs.Fields.{IsField, IsAnyField, IsFieldOf, IsBehind, field_behind, IsOwnRegion, IsNamedRegion, LoopsOver, IsOwnCut, LoopsOverPart, IsPiece, IsLooped, element_field, part_element, AreReachable, IsPointing, IsKeepable, IsDifference, IsBegun, IsSaid, GoesThrough}
+pub use Rattle.code_laws.specs.Fields.{are_fields, IsPartElement, IsField, IsAnyField, IsFieldOf, IsBehind, field_behind, IsOwnRegion, IsNamedRegion, LoopsOver, IsOwnCut, LoopsOverPart, IsPiece, IsLooped, element_field, part_element, AreReachable, IsPointing, IsKeepable, IsDifference, IsBegun, IsSaid, GoesThrough}
 
 -- ---- expressions
 

@@ -15,7 +15,7 @@ ghost use Rattle.code_laws.specs.PointerExample.{PointerExampleHolds};
 ghost use Rattle.code_laws.specs.Privileges.{AllowedIsNeeded};
 ghost use Rattle.code_laws.specs.RegionExample.{RegionExampleHolds};
 ghost use Rattle.code_laws.specs.Programs.{CallsRunAsMeant, PointerCallsRunAsMeant, PointersRunAsMeant, RegionsRunAsMeant, ScalarsRunAsMeant};
-ghost use Rattle.code_laws.specs.LocalPrograms.{AcceptedProgramsEndWell, AcceptedProgramsRunAsMeant};
+ghost use Rattle.code_laws.specs.AcceptedPrograms.{AcceptedProgramsEndWell, AcceptedProgramsRunAsMeant};
 ghost use Rattle.code_laws.specs.ScalarPrograms.{ScalarProgramsLeaveNoRoots, ScalarProgramsRunAsMeant};
 
 /// Where the entry task's body is typed and treats scalars alone, the run in order of its code is what the
@@ -82,9 +82,7 @@ pub fn scalar_programs_leave_no_roots()
     ensures { ScalarProgramsLeaveNoRoots }
 {}
 
-/// So it is for each accepted program whose tasks hand regions over by name: each takes numbers, truths, indices and regions,
-/// with privileges and constraints on them, and gives a number or truth, or nothing; it may loop over its regions, keep
-/// pointers to their elements, and take fields of these. Nothing is supposed of types.
+/// So it is for each accepted program as the reader gives it. Nothing is supposed of types.
 #[tactic(auto, using(crate::proofs::LocalRuns::accepted_programs_run_as_meant))]
 pub fn accepted_programs_run_as_meant()
     ensures { AcceptedProgramsRunAsMeant }

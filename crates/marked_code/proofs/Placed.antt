@@ -45,7 +45,7 @@ module _ (g : Program) (t : TaskCode) (k : ℕ) where
   behind_both (m ∷ ms) ns pc = behind_both ms ns (suc pc)
 
   -- a piece has as many marks as lines
-  past_marks : (m : Mark) (p : Piece) (ms : List Mark) (n : Mark) (pc : ℕ) → Typed g t k m p ms n →
+  pub past_marks : (m : Mark) (p : Piece) (ms : List Mark) (n : Mark) (pc : ℕ) → Typed g t k m p ms n →
       behind ms pc ≡ past p pc
   past_marks _ _ _ _ pc (typed_empty m) = refl
   past_marks _ _ _ _ pc (typed_op m n i line l) = refl

@@ -10,7 +10,7 @@ use Rattle.task_code.specs.declared.instr.Instr.{Instr}
 use Rattle.code_rules.specs.Pieces.{Piece}
 use Rattle.fit_rules.specs.Shapes.{Each, Shape, World}
 use Rattle.fit_rules.specs.Marks.{Into, Mark}
-use Rattle.fit_rules.specs.Ends.{called, IsNeeded}
+use Rattle.fit_rules.specs.Ends.{IsNeeded}
 use Rattle.task_code.specs.declared.code.NeedCode.{NeedCode}
 use Rattle.region_tree.specs.Requirements.{IsWithin}
 use Rattle.machine_terms.specs.declared.value.Value.{Value}
@@ -34,10 +34,10 @@ marks_listed g t k d pre (m ∷ ms) h =
 abbrev pub remarked : Program → (ℕ → ℕ → Mark) → Program
 remarked g ms = record g { marks = ms }
 
--- what suits the first mark of a task suits its new first mark
+-- what a frame of a task may begin with suits its new first mark
 abbrev pub Begins : Program → (ℕ → ℕ → Mark) → Type 0
 Begins g ms = (task : ℕ) (callee : TaskCode) → slice_get g.code.tasks task ≡ Some callee →
-    Into callee.params (g.marks task 0) (ms task 0)
+    Into callee.params (g.begins task) (ms task 0)
 
 covers_remarked : (g : Program) (x : World) (t : TaskCode) (ms : ℕ → ℕ → Mark) (root f p : ℕ) (a : Mode) →
     Covers g x t root f p a → Covers (remarked g ms) x t root f p a
@@ -123,13 +123,16 @@ module _ (g : Program) (t : TaskCode) (k : ℕ) (ms : ℕ → ℕ → Mark) (beg
   leads_remarked _ _ _ (leads_pointed m i a ss e n q) = leads_pointed m i a ss e n q
   leads_remarked _ _ _ (leads_child m i sp a ss c e n h q) = leads_child m i sp a ss c e n h q
   leads_remarked _ _ _ (leads_calling m task n callee args rest there p b tk o) =
-      leads_calling m task n callee args rest there p b tk (λ x vs st ws r h a.
-      let y = o x vs st ws r h a in (
-        begins task callee there (called x ws) _ [] y.0,
-        needed_remarked g ms x ws callee.needs y.1,
-        subst (λ z. IsWithin (declared_claims callee.needs ws) (declared_claims t.needs x.args ++ z))
-            (sym (own_remarked g ms x x.own)) y.2,
-      ))
+      leads_calling m task n callee args rest there p b tk (
+        begins task callee there,
+        λ x vs st ws r h a.
+            let y = o.1 x vs st ws r h a in (
+              y.0,
+              needed_remarked g ms x ws callee.needs y.1,
+              subst (λ z. IsWithin (declared_claims callee.needs ws) (declared_claims t.needs x.args ++ z))
+                  (sym (own_remarked g ms x x.own)) y.2,
+            ),
+      )
   leads_remarked _ _ _ (leads_waiting m i s e n h) = leads_waiting m i s e n h
   leads_remarked _ _ _ (leads_making m sp i c ss e there l os oss) = leads_making m sp i c ss e there l os oss
   leads_remarked _ _ _ (leads_cutting m s sp ss e h) = leads_cutting m s sp ss e h

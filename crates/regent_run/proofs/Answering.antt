@@ -1,8 +1,8 @@
 -- What a call answers, from what it comes to and what it wrote.
-use Rattle.std.proofs.Common.{◌≡◌, ◌≢◌, ℕ, ◌≤◌, ◌⊎◌, inl, inr, List, [], Option, Some, None, Err, IfSome, length, refl, sym, subst, ◌∙◌}
+use Rattle.std.proofs.Common.{◌≡◌, ◌≢◌, ℕ, ◌⊎◌, inl, inr, List, Option, Some, None, Err, refl, sym, subst, ◌∙◌}
 use Rattle.regent_run.specs.declared.verdict.Verdict.{Verdict}
 use Rattle.regent_run.specs.declared.verdict.Verdict.TheVariants as verdict
-use Rattle.regent_run.specs.Answers.{IsAnswered, IsBegunOnce, IsNotBegun, IsOfText, IsReadWhole, UnlessStopped}
+use Rattle.regent_run.specs.Answers.{HasReadWell, IsAnswered, IsBegunOnce, IsNotBegun, IsOfText, IsReadWhole, UnlessStopped}
 use Rattle.regent_run.specs.Begins.{Begins}
 use Rattle.regent_run.specs.Calls.{Call}
 use Rattle.regent_run.specs.Origins.{begun_for}
@@ -23,7 +23,6 @@ refused serves asked later before now verdict.NoMemory said none = inr refl
 refused serves asked later before now (verdict.NoProgram message) said none = none_named asked said.0 said.1 none
 refused serves asked later before now (verdict.PastLimit passed) said none = none_named asked said.0 said.1 none
 refused serves asked later before now (verdict.Refused message) said none = none_named asked said.0 said.1 none
-refused serves asked later before now verdict.NotBuilt said none = none_named asked said.0 said.1 none
 refused serves asked later before now verdict.OtherInputs said none = none_named asked said.0 said.1 none
 refused serves asked later before now (verdict.Finished text trace) said none = none_named asked said.0 said.1 none
 refused serves asked later before now (verdict.Faulted text message) said none = none_named asked said.0 said.1 none
@@ -43,7 +42,6 @@ steady_source before now verdict.NoMemory h isnt = h
 steady_source before now (verdict.NoProgram message) h isnt = h
 steady_source before now (verdict.PastLimit passed) h isnt = h
 steady_source before now (verdict.Refused message) h isnt = h
-steady_source before now verdict.NotBuilt h isnt = h
 steady_source before now verdict.OtherInputs h isnt = h
 steady_source before now (verdict.Finished text trace) h isnt = h
 steady_source before now (verdict.Faulted text message) h isnt = h
@@ -62,7 +60,6 @@ begun_as call verdict.NoMemory h is = absurd (is.3 refl)
 begun_as call (verdict.NoProgram message) h is = h
 begun_as call (verdict.PastLimit passed) h is = h
 begun_as call (verdict.Refused message) h is = h
-begun_as call verdict.NotBuilt h is = h
 begun_as call verdict.OtherInputs h is = h
 begun_as call (verdict.Finished text trace) h is = h
 begun_as call (verdict.Faulted text message) h is = h
@@ -75,7 +72,6 @@ begins_in call verdict.NoMemory h = h
 begins_in call (verdict.NoProgram message) h = inr h
 begins_in call (verdict.PastLimit passed) h = inr h
 begins_in call (verdict.Refused message) h = inr h
-begins_in call verdict.NotBuilt h = inr h
 begins_in call verdict.OtherInputs h = inr h
 begins_in call (verdict.Finished text trace) h = inr h
 begins_in call (verdict.Faulted text message) h = inr h
@@ -89,7 +85,6 @@ whole_in call verdict.NoMemory h is = absurd (is.3 refl)
 whole_in call (verdict.NoProgram message) h is = h
 whole_in call (verdict.PastLimit passed) h is = h
 whole_in call (verdict.Refused message) h is = h
-whole_in call verdict.NotBuilt h is = h
 whole_in call verdict.OtherInputs h is = h
 whole_in call (verdict.Finished text trace) h is = h
 whole_in call (verdict.Faulted text message) h is = h
@@ -103,13 +98,13 @@ of_text call v answer d is = subst (λ (n : ℕ). IsOfText n) (written v answer 
 
 pub answered : (call : Call) (v : Verdict) (answer : ℕ) → TellsIn call v → UsesIn call v → IsDelivered v answer call.out call.err → IsAnswered call answer
 answered call v answer said uses d =
-    record {
-      ends = ends_as call v answer d (prints_or_tells call v said);
+    let well : status_of v ≢ 3 → HasReadWell call = steady_source call.source.faults call.source.faults_now v uses.steady in record {
+      ends = ends_as call v answer d well (prints_or_tells call v said);
       refuses = λ none. stopped_or_two call v answer d (refused call.serves (request call.words) call.source.later call.source.faults call.source.faults_now v said none);
       comes = comes_to call v answer said d;
       complete = complete_at call v answer said d;
       sure = sure_as call v answer d (prints_or_tells call v said);
-      read = λ not3 not4. steady_source call.source.faults call.source.faults_now v uses.steady (λ three. not3 ((written v answer call.out call.err d not4).status ∙ three));
+      read = λ not3 not4. well (λ three. not3 ((written v answer call.out call.err d not4).status ∙ three));
       steady = λ not4. ((written v answer call.out call.err d not4).output.steady, (written v answer call.out call.err d not4).errors.steady);
       begins = begins_in call v uses.begins;
       begun = λ is. begun_as call v uses.begins (of_text call v answer d is);

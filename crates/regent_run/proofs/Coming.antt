@@ -1,13 +1,13 @@
 -- The status that a verdict comes to, and that of the text.
-use Rattle.std.proofs.Common.{◌≡◌, ℕ, ◌⊎◌, inl, inr, List, Option, Some, None, IfSome, unwrap_or, refl, sym, ap, subst, ◌∙◌}
+use Rattle.std.proofs.Common.{◌≡◌, ℕ, ◌⊎◌, inl, inr, List, [], Option, Some, None, IfSome, unwrap_or, refl, sym, ap, subst, ◌∙◌}
 use Rattle.run_io.specs.Faults.{Rose}
 use Rattle.regent_run.specs.declared.verdict.Verdict.{Verdict}
 use Rattle.regent_run.specs.declared.verdict.Verdict.TheVariants as verdict
 use Rattle.regent_run.specs.Answers.{ComesTo, IsComplete, NoneRose, UnlessUnread}
 use Rattle.regent_run.specs.Calls.{Call, SinkChange}
 use Rattle.regent_run.specs.Origins.{text_asked}
-use Rattle.regent_run.specs.Programs.{Comes, IsFinished, faults, finishes, has_a_breach, has_other_inputs, is_accepted, is_no_program, is_not_built, passes_a_limit}
-use Rattle.regent_run.specs.Verdicts.{IsDelivered, Tells, TellsOfText, status_of}
+use Rattle.regent_run.specs.Programs.{Comes, IsFinished, faults, finishes, has_a_breach, has_other_inputs, is_accepted, is_no_program, passes_a_limit}
+use Rattle.regent_run.specs.Verdicts.{IsDelivered, Tells, TellsOfText, TellsText, status_of}
 use Rattle.command_words.specs.Commands.{Run}
 use Rattle.regent_run.specs.Words.{Deed, Request, request, runs}
 use Rattle.regent_run.proofs.Statuses.{one_status}
@@ -21,14 +21,13 @@ run_finishes : {text : List ℕ} {r : Run} {output : List ℕ} → IsFinished te
 run_finishes p = finishes (record { tree = p.tree; reads = p.reads; sound = p.sound; means = p.finishes.means })
 
 -- the verdict's status is what the text comes to, but where it can't be read or memory ran out
-says_comes : (serves : ℕ → ℕ) (text : List ℕ) (deed : Deed) (v : Verdict) → TellsOfText serves (Some text) deed v → (status_of v ≡ 7) ⊎ Comes text deed (status_of v)
+says_comes : (serves : ℕ → ℕ) (text : List ℕ) (deed : Deed) (v : Verdict) → TellsText serves text deed v → (status_of v ≡ 7) ⊎ Comes text deed (status_of v)
 says_comes serves text deed verdict.Usage h = absurd h
 says_comes serves text deed verdict.Unread h = absurd h
 says_comes serves text deed verdict.NoMemory h = inl refl
 says_comes serves text deed (verdict.NoProgram m) h = inr (is_no_program h.2)
 says_comes serves text deed (verdict.PastLimit l) h = inr (passes_a_limit h)
 says_comes serves text deed (verdict.Refused m) h = inr (has_a_breach h.3)
-says_comes serves text deed verdict.NotBuilt h = inr (says_run text deed h.0 10 h.1 (is_not_built h.2))
 says_comes serves text deed verdict.OtherInputs h = inr (says_run text deed h.0 9 h.1 (has_other_inputs h.2))
 says_comes serves text deed (verdict.Finished p trace) h = inr (says_run text deed h.0 0 h.1 (run_finishes h.3))
 says_comes serves text deed (verdict.Faulted p message) h = inr (says_run text deed h.0 1 h.1 (faults h.6))
@@ -42,6 +41,11 @@ renamed serves asked a b told v p q h =
     let same : b ≡ a = ap (λ o. unwrap_or o a) e in
     subst (λ (c : Request). TellsOfText serves told c.deed v) same h
 
+-- where memory ran out nothing is told of the text
+told_without_memory : (serves : ℕ → ℕ) (told : Option (List ℕ)) (deed : Deed) → TellsOfText serves told deed verdict.NoMemory
+told_without_memory serves None deed = ([], tt, tt)
+told_without_memory serves (Some text) deed = (text, refl, tt)
+
 -- the text can't be read, or this is told of it
 abbrev UnreadOr : ℕ → ℕ → Verdict → Type 0 → Type 0
 UnreadOr before now v P = ((status_of v ≡ 3) × Rose before now) ⊎ P
@@ -51,11 +55,10 @@ says_named : (serves : ℕ → ℕ) (asked : Option Request) (later : Option (Li
     Tells serves asked later before now v → UnreadOr before now v (TellsOfText serves (text_asked asked later) named.deed v)
 says_named serves asked later before now verdict.Usage named is said = let e : None ≡ Some named = sym said ∙ is in absurd cc
 says_named serves asked later before now verdict.Unread named is said = inl (refl, said.rose)
-says_named serves asked later before now verdict.NoMemory named is said = inr tt
+says_named serves asked later before now verdict.NoMemory named is said = inr (told_without_memory serves (text_asked asked later) named.deed)
 says_named serves asked later before now (verdict.NoProgram m) named is said = inr (renamed serves asked named said.0 (text_asked asked later) (verdict.NoProgram m) is said.1 said.2)
 says_named serves asked later before now (verdict.PastLimit l) named is said = inr (renamed serves asked named said.0 (text_asked asked later) (verdict.PastLimit l) is said.1 said.2)
 says_named serves asked later before now (verdict.Refused m) named is said = inr (renamed serves asked named said.0 (text_asked asked later) (verdict.Refused m) is said.1 said.2)
-says_named serves asked later before now verdict.NotBuilt named is said = inr (renamed serves asked named said.0 (text_asked asked later) verdict.NotBuilt is said.1 said.2)
 says_named serves asked later before now verdict.OtherInputs named is said = inr (renamed serves asked named said.0 (text_asked asked later) verdict.OtherInputs is said.1 said.2)
 says_named serves asked later before now (verdict.Finished p trace) named is said = inr (renamed serves asked named said.0 (text_asked asked later) (verdict.Finished p trace) is said.1 said.2)
 says_named serves asked later before now (verdict.Faulted p message) named is said = inr (renamed serves asked named said.0 (text_asked asked later) (verdict.Faulted p message) is said.1 said.2)
@@ -74,7 +77,7 @@ SaidIn call told deed v = UnreadOr call.source.faults call.source.faults_now v (
 said_comes : (call : Call) (text : List ℕ) (deed : Deed) (v : Verdict) → SaidIn call (Some text) deed v →
     UnreadOr call.source.faults call.source.faults_now v ((status_of v ≡ 7) ⊎ Comes text deed (status_of v))
 said_comes call text deed v (inl unread) = inl unread
-said_comes call text deed v (inr told) = inr (says_comes call.serves text deed v told)
+said_comes call text deed v (inr told) = inr (says_comes call.serves text deed v (subst (λ (t : List ℕ). TellsText call.serves t deed v) told.1 told.2))
 
 says_in : (call : Call) (v : Verdict) (named : Request) → request call.words ≡ Some named → TellsIn call v → SaidIn call (text_of_call call) named.deed v
 says_in call v named is said = says_named call.serves (request call.words) call.source.later call.source.faults call.source.faults_now v named is said

@@ -33,7 +33,6 @@ accepted_judges text tree (runs r) (Err verdict.NoMemory) reads sound h = tt
 accepted_judges text tree (runs r) (Err (verdict.NoProgram message)) reads sound h = absurd h
 accepted_judges text tree (runs r) (Err (verdict.PastLimit passed)) reads sound h = absurd h
 accepted_judges text tree (runs r) (Err (verdict.Refused message)) reads sound h = absurd h
-accepted_judges text tree (runs r) (Err verdict.NotBuilt) reads sound h = (r, refl, record { tree = tree; reads = reads; sound = sound; form = h })
 accepted_judges text tree (runs r) (Err verdict.OtherInputs) reads sound h = (r, refl, record { tree = tree; reads = reads; sound = sound; takes = h })
 accepted_judges text tree (runs r) (Err (verdict.Finished printed trace)) reads sound h = absurd h
 accepted_judges text tree (runs r) (Err (verdict.Faulted printed message)) reads sound h = absurd h
@@ -48,7 +47,6 @@ program_judges text deed tree (Err verdict.NoMemory) reads h = tt
 program_judges text deed tree (Err (verdict.NoProgram message)) reads h = accepted_judges text tree deed (Err (verdict.NoProgram message)) reads h.0 h.1
 program_judges text deed tree (Err (verdict.PastLimit passed)) reads h = accepted_judges text tree deed (Err (verdict.PastLimit passed)) reads h.0 h.1
 program_judges text deed tree (Err (verdict.Refused message)) reads h = (h.rule, h.line, h.told, record { tree = tree; reads = reads; breach = h.breach })
-program_judges text deed tree (Err verdict.NotBuilt) reads h = accepted_judges text tree deed (Err verdict.NotBuilt) reads h.0 h.1
 program_judges text deed tree (Err verdict.OtherInputs) reads h = accepted_judges text tree deed (Err verdict.OtherInputs) reads h.0 h.1
 program_judges text deed tree (Err (verdict.Finished printed trace)) reads h = accepted_judges text tree deed (Err (verdict.Finished printed trace)) reads h.0 h.1
 program_judges text deed tree (Err (verdict.Faulted printed message)) reads h = accepted_judges text tree deed (Err (verdict.Faulted printed message)) reads h.0 h.1
@@ -62,7 +60,6 @@ fault_judges text deed fault verdict.NoMemory reads h = tt
 fault_judges text deed fault (verdict.NoProgram message) reads h = (h.0, h.1, record { fault = fault; reads = reads; told = h.2 })
 fault_judges text deed fault (verdict.PastLimit passed) reads h = record { fault = fault; reads = reads; told = h }
 fault_judges text deed fault (verdict.Refused message) reads h = absurd h
-fault_judges text deed fault verdict.NotBuilt reads h = absurd h
 fault_judges text deed fault verdict.OtherInputs reads h = absurd h
 fault_judges text deed fault (verdict.Finished printed trace) reads h = absurd h
 fault_judges text deed fault (verdict.Faulted printed message) reads h = absurd h
@@ -74,21 +71,6 @@ fault_judges text deed fault verdict.Accepted reads h = absurd h
 pub left_on : (text read : List ℕ) (left : Option (List ℕ)) → Moves (Some text) read left → (rest : List ℕ) × (left ≡ Some rest) × (text ≡ read ++ rest)
 left_on text read None moves = let e : Some text ≡ None = moves in absurd cc
 left_on text read (Some rest) moves = let e : Some text ≡ Some (read ++ rest) = moves in (rest, refl, cc)
-
--- of a text that is read to its end all is said
-pub says_of_read : (deed : Deed) (judged : Result Plan Verdict) (text : List ℕ) → Judges text deed judged → SaysOfText (Some text) deed judged
-says_of_read deed (Ok plan) text h = h
-says_of_read deed (Err verdict.Usage) text h = absurd h
-says_of_read deed (Err verdict.Unread) text h = absurd h
-says_of_read deed (Err verdict.NoMemory) text h = tt
-says_of_read deed (Err (verdict.NoProgram message)) text h = h
-says_of_read deed (Err (verdict.PastLimit passed)) text h = h
-says_of_read deed (Err (verdict.Refused message)) text h = h
-says_of_read deed (Err verdict.NotBuilt) text h = h
-says_of_read deed (Err verdict.OtherInputs) text h = h
-says_of_read deed (Err (verdict.Finished printed trace)) text h = absurd h
-says_of_read deed (Err (verdict.Faulted printed message)) text h = absurd h
-says_of_read deed (Err verdict.Accepted) text h = h
 
 -- a text that is too long comes to that alone, however it goes on
 long_reads : (read : List ℕ) (outcome : Outcome) → 1048576 < length read → Reads read outcome → outcome ≡ Err TooLong
@@ -111,9 +93,6 @@ long_judges text read rest deed (Err (verdict.PastLimit passed)) is long h = rec
 long_judges text read rest deed (Err (verdict.Refused message)) is long h =
     let b = h.3 in
     (h.0, h.1, h.2, record { tree = b.tree; reads = still_long text read rest _ is long b.reads; breach = b.breach })
-long_judges text read rest deed (Err verdict.NotBuilt) is long h =
-    let b = h.2 in
-    (h.0, h.1, record { tree = b.tree; reads = still_long text read rest _ is long b.reads; sound = b.sound; form = b.form })
 long_judges text read rest deed (Err verdict.OtherInputs) is long h =
     let b = h.2 in
     (h.0, h.1, record { tree = b.tree; reads = still_long text read rest _ is long b.reads; sound = b.sound; takes = b.takes })
@@ -129,41 +108,28 @@ says_on text read rest deed judged is whole (inl long) h = long_judges text read
 says_on text read rest deed judged is whole (inr short) h =
     subst (λ (t : List ℕ). Judges t deed judged) (sym (is ∙ ap (λ r. read ++ r) (whole short) ∙ append-nil read)) h
 
-says_nothing : (read : List ℕ) (deed : Deed) (judged : Result Plan Verdict) → Judges read deed judged → SaysOfText None deed judged
-says_nothing read deed (Ok plan) h = (h.0, h.1, h.2, tt, h.4)
-says_nothing read deed (Err verdict.Usage) h = absurd h
-says_nothing read deed (Err verdict.Unread) h = absurd h
-says_nothing read deed (Err verdict.NoMemory) h = tt
-says_nothing read deed (Err (verdict.NoProgram message)) h = (h.0, h.1, tt)
-says_nothing read deed (Err (verdict.PastLimit passed)) h = tt
-says_nothing read deed (Err (verdict.Refused message)) h = (h.0, h.1, h.2, tt)
-says_nothing read deed (Err verdict.NotBuilt) h = (h.0, h.1, tt)
-says_nothing read deed (Err verdict.OtherInputs) h = (h.0, h.1, tt)
-says_nothing read deed (Err (verdict.Finished printed trace)) h = absurd h
-says_nothing read deed (Err (verdict.Faulted printed message)) h = absurd h
-says_nothing read deed (Err verdict.Accepted) h = (h.0, tt)
-
 -- what is judged of the bytes that were read is said of the text
 says_of_text : (told : Option (List ℕ)) (read : List ℕ) (left : Option (List ℕ)) (deed : Deed) (judged : Result Plan Verdict) →
     Moves told read left → (length read ≤ 1048576 → IfSome left (λ rest. rest ≡ [])) → Judges read deed judged → SaysOfText told deed judged
-says_of_text None read left deed judged moves whole h = says_nothing read deed judged h
+says_of_text None read left deed judged moves whole h = (read, tt, h)
 says_of_text (Some text) read left deed judged moves whole h =
-    let p = left_on text read left moves in
-    says_of_read deed judged text
-    (says_on text read p.0 deed judged p.2
-    (λ short. let w : IfSome (Some p.0) (λ rest. rest ≡ []) = subst (λ (o : Option (List ℕ)). IfSome o (λ rest. rest ≡ [])) p.1 (whole short) in w)
-    (cases_lt 1048576 (length read)) h)
+    let p = left_on text read left moves in (
+      text,
+      refl,
+      says_on text read p.0 deed judged p.2
+          (λ short. let w : IfSome (Some p.0) (λ rest. rest ≡ []) = subst (λ (o : Option (List ℕ)). IfSome o (λ rest. rest ≡ [])) p.1 (whole short) in w)
+          (cases_lt 1048576 (length read)) h,
+    )
 
 -- of the text that is asked for
 says_asked : (r : Request) (later : Option (List (List ℕ))) (before now : ℕ) (judged : Result Plan Verdict) → SaysOfText (text_from r.origin later) r.deed judged → Says (Some r) later before now judged
 says_asked r later before now (Ok plan) h = (r, refl, h)
-says_asked r later before now (Err verdict.Usage) h = absurd h
-says_asked r later before now (Err verdict.Unread) h = absurd h
+says_asked r later before now (Err verdict.Usage) h = absurd h.2
+says_asked r later before now (Err verdict.Unread) h = absurd h.2
 says_asked r later before now (Err verdict.NoMemory) h = tt
 says_asked r later before now (Err (verdict.NoProgram message)) h = (r, refl, h)
 says_asked r later before now (Err (verdict.PastLimit passed)) h = (r, refl, h)
 says_asked r later before now (Err (verdict.Refused message)) h = (r, refl, h)
-says_asked r later before now (Err verdict.NotBuilt) h = (r, refl, h)
 says_asked r later before now (Err verdict.OtherInputs) h = (r, refl, h)
 says_asked r later before now (Err (verdict.Finished printed trace)) h = (r, refl, h)
 says_asked r later before now (Err (verdict.Faulted printed message)) h = (r, refl, h)
@@ -183,7 +149,7 @@ cant_be_read name deed before now rose = record { of_file = λ none. none; rose 
 pub says_of_sample : (colours : ℕ) (deed : Deed) (later : Option (List (List ℕ))) (judged : Result Plan Verdict) (before now : ℕ) →
     Judges (sample_text colours) deed judged → Says (Some (record { origin = sample colours; deed = deed })) later before now judged
 says_of_sample colours deed later judged before now h =
-    says_asked (record { origin = sample colours; deed = deed }) later before now judged (says_of_read deed judged (sample_text colours) h)
+    says_asked (record { origin = sample colours; deed = deed }) later before now judged (sample_text colours, refl, h)
 
 -- what words ask for that say a command
 pub asked_is : (words : List (List ℕ)) (said : Command) (asked : Request) → command words ≡ Some said → asked ≡ asked_by said → request words ≡ Some asked
@@ -203,7 +169,6 @@ tells_token kind line verdict.NoMemory none h = tt
 tells_token kind line (verdict.NoProgram message) none h = (line, h, syntax_told kind line none)
 tells_token kind line (verdict.PastLimit passed) none h = absurd h
 tells_token kind line (verdict.Refused message) none h = h
-tells_token kind line verdict.NotBuilt none h = h
 tells_token kind line verdict.OtherInputs none h = h
 tells_token kind line (verdict.Finished printed trace) none h = h
 tells_token kind line (verdict.Faulted printed message) none h = h

@@ -1,15 +1,15 @@
 -- From the run of a plan to what the program means.
-use Rattle.std.proofs.Common.{◌≡◌, ◌↔◌, ◌∙◌, ◌<◌, ◌^◌, ◌++◌, ℕ, ℤ, Bool, true, false, List, [], ◌∷◌, Option, Some, None, unwrap_or, Result, Ok, Err, IfOk, IfSome, ap, refl, subst, sym}
+use Rattle.std.proofs.Common.{◌≡◌, ◌↔◌, ◌∙◌, ◌<◌, ◌^◌, ◌++◌, ℕ, ℤ, Bool, true, false, List, [], ◌∷◌, Option, Some, unwrap_or, Result, Ok, Err, IfOk, ap, refl, subst, sym}
 use Rattle.check_rules.specs.Acceptance.{input_widths}
 use Rattle.check_rules.specs.Breaches.{breaches}
 use Rattle.code_laws.proofs.LocalRuns.{accepted_programs_end_well, accepted_programs_run_as_meant}
-use Rattle.code_laws.specs.LocalPrograms.{IsEnded, IsLocalProgramRun}
+use Rattle.code_laws.specs.AcceptedPrograms.{IsEnded, IsProgramRun}
 use Rattle.code_laws.specs.Programs.{job_of}
 use Rattle.code_laws.specs.ScalarPrograms as fitting
 use Rattle.code_rules.specs.Programs.{code_of}
 use Rattle.command_words.specs.Commands.{Run, turns_or_default, workers_or_default}
+use Rattle.expression_laws.specs.WrittenStatements.{AreWrittenTasks}
 use Rattle.lane_kernels.specs.declared.numbers.Width.{Width}
-use Rattle.local_form.specs.LocalForm.{is_local_program}
 use Rattle.board_terms.specs.Replays.{replay}
 use Rattle.machine_terms.specs.Jobs.{order_run}
 use Rattle.parallel_run.specs.Runs.{HasEnded, IsInOrder, IsOfJob, in_order_line}
@@ -29,7 +29,6 @@ use Rattle.task_code.specs.declared.job.Job.{Job}
 use Rattle.regent_run.specs.declared.verdict.Verdict.{Verdict}
 use Rattle.regent_run.specs.declared.verdict.Verdict.TheVariants as verdict
 use Rattle.regent_run.specs.Inputs.{AreInputs}
-use Rattle.regent_run.specs.Origins.{text_asked}
 use Rattle.regent_run.specs.Programs.{Finishes, IsFinished, IsRun, Means, faulted_with, finished_with}
 use Rattle.regent_run.specs.Texts.{dump_by, dump_text}
 use Rattle.regent_run.specs.Traces.{FinishesJob, IsJournalOf, IsTrace, by_workers, in_order, no_result, not_asked, other_job, serving, trace_by}
@@ -45,7 +44,7 @@ pub record RunsWell (tree : Tree) (inputs : List ℤ) (turns : ℕ) (job : Job) 
   pub ended : IsEnded o.ending
   pub fits : fits_spaces job.code o ≡ true
 
-pub runs_well : (tree : Tree) (inputs : List ℤ) (turns : ℕ) (job : Job) (o : Outcome) → turns < 2 ^ 64 → IsLocalProgramRun tree inputs →
+pub runs_well : (tree : Tree) (inputs : List ℤ) (turns : ℕ) (job : Job) (o : Outcome) → turns < 2 ^ 64 → IsProgramRun tree inputs →
     job ≡ job_of tree inputs turns → o ≡ order_run job → RunsWell tree inputs turns job o
 runs_well tree inputs turns job o few run same is =
     let coded : job.code ≡ code_of tree = ap (λ (j : Job). j.code) same in
@@ -108,7 +107,6 @@ plan_told serves plan ran verdict.NoMemory ended of_job order h = tt
 plan_told serves plan ran (verdict.NoProgram message) ended of_job order h = absurd h
 plan_told serves plan ran (verdict.PastLimit passed) ended of_job order h = absurd h
 plan_told serves plan ran (verdict.Refused message) ended of_job order h = absurd h
-plan_told serves plan ran verdict.NotBuilt ended of_job order h = absurd h
 plan_told serves plan ran verdict.OtherInputs ended of_job order h = absurd h
 plan_told serves plan ran (verdict.Finished output trace) ended of_job order h =
     record { trace = trace_by plan.traces ran; traced = traced plan.job ran plan.traces (serves plan.workers) ended of_job order; told = h }
@@ -125,19 +123,19 @@ all_fit (w ∷ ws) [] zs h = absurd h
 all_fit (w ∷ ws) (word ∷ words) [] h = absurd h
 all_fit (w ∷ ws) (word ∷ words) (z ∷ zs) h = (h.0.2, all_fit ws words zs h.1)
 
--- an accepted program whose tasks hand regions over by name, with the numbers that it takes, can be run
-pub is_local_run : (tree : Tree) (ws : List Width) (words : List (List ℕ)) (inputs : List ℤ) → WithinLimits tree → breaches tree ≡ [] → is_local_program tree ≡ true →
-    ws ≡ input_widths tree → AreInputs ws words inputs → IsLocalProgramRun tree inputs
-is_local_run tree ws words inputs within sound local are given =
-    record { within = within; accepted = sound; local = local; numbers = subst (λ us. fitting.AreInputs us inputs) are (all_fit ws words inputs given) }
+-- an accepted program that was read, with the numbers that it takes, can be run
+pub can_run : (tree : Tree) (ws : List Width) (words : List (List ℕ)) (inputs : List ℤ) → WithinLimits tree → breaches tree ≡ [] → AreWrittenTasks tree →
+    ws ≡ input_widths tree → AreInputs ws words inputs → IsProgramRun tree inputs
+can_run tree ws words inputs within sound written are given =
+    record { within = within; accepted = sound; written = written; numbers = subst (λ us. fitting.AreInputs us inputs) are (all_fit ws words inputs given) }
 
 -- the job of an accepted program, with the numbers that it takes, and what is asked for are a plan of its run
-pub plan_is : (tree : Tree) (r : Run) (ws : List Width) (inputs : List ℤ) (plan : Plan) → WithinLimits tree → breaches tree ≡ [] → is_local_program tree ≡ true → ws ≡ input_widths tree → AreInputs ws r.numbers inputs →
+pub plan_is : (tree : Tree) (r : Run) (ws : List Width) (inputs : List ℤ) (plan : Plan) → WithinLimits tree → breaches tree ≡ [] → AreWrittenTasks tree → ws ≡ input_widths tree → AreInputs ws r.numbers inputs →
     turns_or_default r.turns_named < 2 ^ 64 → plan.job ≡ job_of tree inputs (turns_or_default r.turns_named) → plan.workers ≡ workers_or_default r.workers_named → plan.dumps ≡ r.dumps → plan.traces ≡ r.traces → IsPlan tree r plan
-plan_is tree r ws inputs plan within sound local are given few job workers dumps traces = record {
+plan_is tree r ws inputs plan within sound written are given few job workers dumps traces = record {
   inputs = inputs;
   given = subst (λ us. AreInputs us r.numbers inputs) are given;
-  program = is_local_run tree ws r.numbers inputs within sound local are given;
+  program = can_run tree ws r.numbers inputs within sound written are given;
   job = job;
   few = few;
   workers = workers;
@@ -155,25 +153,20 @@ trace_on traces workers trace on (by_workers journal some is) = by_workers journ
 trace_on traces workers trace on (other_job some) = other_job some
 trace_on traces workers trace on (no_result some) = no_result some
 
-some_on : {P Q : List ℕ → Type 0} (told : Option (List ℕ)) → ((text : List ℕ) → P text → Q text) → IfSome told P → IfSome told Q
-some_on None on h = tt
-some_on (Some text) on h = on text h
-
 -- the trace of a plan's run is one of the run of the text
-text_traced : (serves : ℕ → ℕ) (told : Option (List ℕ)) (tree : Tree) (r : Run) (plan : Plan) (trace : List ℕ) → IfSome told (λ text. Reads text (Ok tree)) → IsPlan tree r plan →
-    IsTrace (FinishesJob plan.job) plan.traces (serves plan.workers) trace → IsTrace (λ journal. IfSome told (λ text. IsJournalOf text r journal)) r.traces (serving serves r) trace
-text_traced serves told tree r plan trace reads is h =
+text_traced : (serves : ℕ → ℕ) (text : List ℕ) (tree : Tree) (r : Run) (plan : Plan) (trace : List ℕ) → Reads text (Ok tree) → IsPlan tree r plan →
+    IsTrace (FinishesJob plan.job) plan.traces (serves plan.workers) trace → IsTrace (λ journal. IsJournalOf text r journal) r.traces (serving serves r) trace
+text_traced serves text tree r plan trace reads is h =
     let asked : IsTrace (FinishesJob plan.job) r.traces (serving serves r) trace =
     subst (λ (n : ℕ). IsTrace (FinishesJob plan.job) r.traces (serves n) trace) is.workers (subst (λ (b : Bool). IsTrace (FinishesJob plan.job) b (serves plan.workers) trace) is.traces h) in
     trace_on r.traces (serving serves r) trace
-    (λ journal finishes. some_on {P = λ text. Reads text (Ok tree)} {Q = λ text. IsJournalOf text r journal} told
-    (λ text read. record { tree = tree; reads = read; journal_is = record { inputs = is.inputs; given = is.given; finishes = subst (λ (j : Job). FinishesJob j journal) is.job finishes } })
-    reads) asked
+    (λ journal finishes. record { tree = tree; reads = reads; journal_is = record { inputs = is.inputs; given = is.given; finishes = subst (λ (j : Job). FinishesJob j journal) is.job finishes } })
+    asked
 
 -- what its run comes to is what the program means
 plan_run : (tree : Tree) (r : Run) (plan : Plan) (o : Outcome) → IsPlan tree r plan → order_run plan.job ≡ o → Means tree r o
 plan_run tree r plan o is comes =
-    record { form = is.program.local; inputs = is.inputs; given = is.given; means = sym (plan_means tree r plan is).means ∙ comes }
+    record { inputs = is.inputs; given = is.given; means = sym (plan_means tree r plan is).means ∙ comes }
 
 plan_finishes : (tree : Tree) (r : Run) (plan : Plan) (printed output : List ℕ) (roots : List RootImage) → IsPlan tree r plan → order_run plan.job ≡ finished_with printed roots →
     output ≡ printed ++ dump_by plan.dumps plan.job.code.spaces (roots_of (order_run plan.job).ending) → Finishes tree r output
@@ -196,10 +189,9 @@ told_unrun serves asked later before now verdict.NoMemory h = h
 told_unrun serves asked later before now (verdict.NoProgram message) h = h
 told_unrun serves asked later before now (verdict.PastLimit passed) h = h
 told_unrun serves asked later before now (verdict.Refused message) h = h
-told_unrun serves asked later before now verdict.NotBuilt h = h
 told_unrun serves asked later before now verdict.OtherInputs h = h
-told_unrun serves asked later before now (verdict.Finished output trace) h = absurd h.2
-told_unrun serves asked later before now (verdict.Faulted printed message) h = absurd h.2
+told_unrun serves asked later before now (verdict.Finished output trace) h = absurd h.2.2
+told_unrun serves asked later before now (verdict.Faulted printed message) h = absurd h.2.2
 told_unrun serves asked later before now verdict.Accepted h = h
 
 pub told_run : (serves : ℕ → ℕ) (asked : Option Request) (later : Option (List (List ℕ))) (before now : ℕ) (plan : Plan) (v : Verdict) → Says asked later before now (Ok plan) → TellsPlan serves plan v →
@@ -210,27 +202,24 @@ told_run serves asked later before now plan verdict.NoMemory said h = tt
 told_run serves asked later before now plan (verdict.NoProgram message) said h = absurd h.told
 told_run serves asked later before now plan (verdict.PastLimit passed) said h = absurd h.told
 told_run serves asked later before now plan (verdict.Refused message) said h = absurd h.told
-told_run serves asked later before now plan verdict.NotBuilt said h = absurd h.told
 told_run serves asked later before now plan verdict.OtherInputs said h = absurd h.told
 told_run serves asked later before now plan (verdict.Finished output trace) said h =
-    let p = said.2 in
+    let of = said.2 in
+    let p = of.2 in
     let t = h.told in
     let bytes : IsTrace (FinishesJob plan.job) plan.traces (serves plan.workers) trace.items = subst (λ (b : List ℕ). IsTrace (FinishesJob plan.job) plan.traces (serves plan.workers) b) (sym t.0) h.traced in
-    let text : Option (List ℕ) = text_asked asked later in
-    let ends : IfSome text (λ text. IsFinished text p.0 output) =
-    some_on {P = λ text. Reads text (Ok p.2)} {Q = λ text. IsFinished text p.0 output} text
-    (λ text read. record { tree = p.2; reads = read; sound = p.4.program.accepted; finishes = plan_finishes p.2 p.0 plan t.1 output t.2 p.4 t.3 t.4 }) p.3 in
-    (said.0, said.1, (p.0, p.1, text_traced serves text p.2 p.0 plan trace.items p.3 p.4 bytes, ends))
+    let ends : IsFinished of.0 p.0 output =
+    record { tree = p.2; reads = p.3; sound = p.4.program.accepted; finishes = plan_finishes p.2 p.0 plan t.1 output t.2 p.4 t.3 t.4 } in
+    (said.0, said.1, (of.0, of.1, (p.0, p.1, text_traced serves of.0 p.2 p.0 plan trace.items p.3 p.4 bytes, ends)))
 told_run serves asked later before now plan (verdict.Faulted printed message) said h =
-    let p = said.2 in
+    let of = said.2 in
+    let p = of.2 in
     let t = h.told in
-    let text : Option (List ℕ) = text_asked asked later in
-    let faults : IfSome text (λ text. IsRun text p.0 (faulted_with printed t.0)) =
-    some_on {P = λ text. Reads text (Ok p.2)} {Q = λ text. IsRun text p.0 (faulted_with printed t.0)} text
-    (λ text read. record { tree = p.2; reads = read; sound = p.4.program.accepted; means = plan_run p.2 p.0 plan (faulted_with printed t.0) p.4 t.2 }) p.3 in
-    (said.0, said.1, (p.0, p.1, t.0, h.trace, t.1, text_traced serves text p.2 p.0 plan h.trace p.3 p.4 h.traced, faults))
+    let faults : IsRun of.0 p.0 (faulted_with printed t.0) =
+    record { tree = p.2; reads = p.3; sound = p.4.program.accepted; means = plan_run p.2 p.0 plan (faulted_with printed t.0) p.4 t.2 } in
+    (said.0, said.1, (of.0, of.1, (p.0, p.1, t.0, h.trace, t.1, text_traced serves of.0 p.2 p.0 plan h.trace p.3 p.4 h.traced, faults)))
 told_run serves asked later before now plan verdict.Accepted said h = absurd h.told
 
 -- it is the plan of a sound run
 pub says_sound : (asked : Option Request) (later : Option (List (List ℕ))) (before now : ℕ) (plan : Plan) → Says asked later before now (Ok plan) → IsSound plan
-says_sound asked later before now plan said = record { tree = said.2.2; run = said.2.0; is_plan = said.2.4 }
+says_sound asked later before now plan said = record { tree = said.2.2.2; run = said.2.2.0; is_plan = said.2.2.4 }

@@ -1,5 +1,5 @@
 -- A text comes to one status alone.
-use Rattle.std.proofs.Common.{◌≡◌, ℕ, ℤ, ◌<◌, ◌⊎◌, inl, inr, List, [], Some, Ok, Err, length, true, false, refl, sym, ap, subst, ◌∙◌, arith}
+use Rattle.std.proofs.Common.{◌≡◌, ℕ, ℤ, ◌<◌, ◌⊎◌, inl, inr, List, [], Some, Ok, Err, length, refl, sym, ap, subst, ◌∙◌, arith}
 use Rattle.std.specs.Prelude.{Contains}
 use Rattle.check_rules.specs.Acceptance.{input_widths}
 use Rattle.check_rules.specs.Breaches.{breaches}
@@ -19,13 +19,12 @@ use Rattle.regent_reader.specs.declared.fault.ReadFault.{ReadFault}
 use Rattle.regent_reader.specs.declared.fault.ReadFault.TheVariants as fault
 use Rattle.regent_reader.specs.Texts.{Outcome, Reads}
 use Rattle.regent_reader.proofs.TextLaws.{one_outcome}
-use Rattle.local_form.specs.LocalForm.{is_local_program}
 use Rattle.regent_run.specs.declared.limit.Limit.{Limit}
 use Rattle.regent_run.specs.Inputs.{AreInputs}
-use Rattle.regent_run.specs.Programs.{Comes, HasBreach, HasOtherInputs, HasSyntaxError, IsRun, Means, PassesLimit, RunsComeToAnEnd, faulted_with, faults, finished_with, finishes, has_a_breach, has_other_inputs, is_accepted, is_no_program, is_not_built, limit_passed, passes_a_limit, syntax_line}
+use Rattle.regent_run.specs.Programs.{AcceptedTextsAreRun, Comes, HasBreach, HasOtherInputs, HasSyntaxError, IsRun, Means, PassesLimit, RunsComeToAnEnd, faulted_with, faults, finished_with, finishes, has_a_breach, has_other_inputs, is_accepted, is_no_program, limit_passed, passes_a_limit, syntax_line}
 use Rattle.command_words.specs.Commands.{Run, turns_or_default}
 use Rattle.regent_run.specs.Words.{Deed, runs}
-use Rattle.regent_run.proofs.InputLaws.{one_inputs}
+use Rattle.regent_run.proofs.InputLaws.{inputs_or_not, one_inputs}
 
 same_tree : (text : List ℕ) (t u : Tree) → Reads text (Ok t) → Reads text (Ok u) → t ≡ u
 same_tree text t u p q =
@@ -79,12 +78,9 @@ module _ (text : List ℕ) where
   breach_or_sound t reads sound b =
       none_there (breaches b.tree) _ (ap breaches (same_tree text b.tree t b.reads reads) ∙ sound) b.breach
 
-  other_form : (t u : Tree) → Reads text (Ok t) → Reads text (Ok u) → is_local_program t ≡ true → is_local_program u ≡ false → ⊥
-  other_form t u p q yes_form no_form = let e : true ≡ false = sym yes_form ∙ ap is_local_program (same_tree text t u p q) ∙ no_form in absurd cc
-
   run_or_other : (r : Run) {o : RunOutcome} → IsRun text r o → HasOtherInputs text r.numbers → ⊥
   run_or_other r p q =
-      q.takes.other p.means.inputs
+      q.takes p.means.inputs
       (subst (λ (t : Tree). AreInputs (input_widths t) r.numbers p.means.inputs) (same_tree text p.tree q.tree p.reads q.reads) p.means.given)
 
   one_run : (r : Run) {o w : RunOutcome} → IsRun text r o → IsRun text r w → o ≡ w
@@ -105,14 +101,12 @@ module _ (text : List ℕ) where
   one_status deed m n (finishes p) (has_a_breach q) = absurd (breach_or_sound p.tree p.reads p.sound q)
   one_status deed m n (finishes p) (passes_a_limit q) = absurd (never_both text p.tree q.fault p.reads q.reads)
   one_status deed m n (finishes p) (has_other_inputs q) = absurd (run_or_other _ p q)
-  one_status deed m n (finishes p) (is_not_built q) = absurd (other_form p.tree q.tree p.reads q.reads p.means.form q.form)
   one_status deed m n (faults p) (finishes q) = absurd (ends_or_faults _ _ _ _ _ q p)
   one_status deed m n (faults p) (faults q) = refl
   one_status deed m n (faults p) (is_no_program q) = absurd (never_both text p.tree q.fault p.reads q.reads)
   one_status deed m n (faults p) (has_a_breach q) = absurd (breach_or_sound p.tree p.reads p.sound q)
   one_status deed m n (faults p) (passes_a_limit q) = absurd (never_both text p.tree q.fault p.reads q.reads)
   one_status deed m n (faults p) (has_other_inputs q) = absurd (run_or_other _ p q)
-  one_status deed m n (faults p) (is_not_built q) = absurd (other_form p.tree q.tree p.reads q.reads p.means.form q.form)
   one_status deed m n (is_accepted p) (is_accepted q) = refl
   one_status deed m n (is_accepted p) (is_no_program q) = absurd (never_both text p.tree q.fault p.reads q.reads)
   one_status deed m n (is_accepted p) (has_a_breach q) = absurd (breach_or_sound p.tree p.reads p.sound q)
@@ -124,7 +118,6 @@ module _ (text : List ℕ) where
   one_status deed m n (is_no_program p) (has_a_breach q) = absurd (never_both text q.tree p.fault q.reads p.reads)
   one_status deed m n (is_no_program p) (passes_a_limit q) = absurd (line_or_limit p q)
   one_status deed m n (is_no_program p) (has_other_inputs q) = absurd (never_both text q.tree p.fault q.reads p.reads)
-  one_status deed m n (is_no_program p) (is_not_built q) = absurd (never_both text q.tree p.fault q.reads p.reads)
   one_status deed m n (has_a_breach p) (finishes q) = absurd (breach_or_sound q.tree q.reads q.sound p)
   one_status deed m n (has_a_breach p) (faults q) = absurd (breach_or_sound q.tree q.reads q.sound p)
   one_status deed m n (has_a_breach p) (is_accepted q) = absurd (breach_or_sound q.tree q.reads q.sound p)
@@ -132,7 +125,6 @@ module _ (text : List ℕ) where
   one_status deed m n (has_a_breach p) (has_a_breach q) = refl
   one_status deed m n (has_a_breach p) (passes_a_limit q) = absurd (never_both text p.tree q.fault p.reads q.reads)
   one_status deed m n (has_a_breach p) (has_other_inputs q) = absurd (breach_or_sound q.tree q.reads q.sound p)
-  one_status deed m n (has_a_breach p) (is_not_built q) = absurd (breach_or_sound q.tree q.reads q.sound p)
   one_status deed m n (passes_a_limit p) (finishes q) = absurd (never_both text q.tree p.fault q.reads p.reads)
   one_status deed m n (passes_a_limit p) (faults q) = absurd (never_both text q.tree p.fault q.reads p.reads)
   one_status deed m n (passes_a_limit p) (is_accepted q) = absurd (never_both text q.tree p.fault q.reads p.reads)
@@ -140,21 +132,12 @@ module _ (text : List ℕ) where
   one_status deed m n (passes_a_limit p) (has_a_breach q) = absurd (never_both text q.tree p.fault q.reads p.reads)
   one_status deed m n (passes_a_limit p) (passes_a_limit q) = refl
   one_status deed m n (passes_a_limit p) (has_other_inputs q) = absurd (never_both text q.tree p.fault q.reads p.reads)
-  one_status deed m n (passes_a_limit p) (is_not_built q) = absurd (never_both text q.tree p.fault q.reads p.reads)
   one_status deed m n (has_other_inputs p) (finishes q) = absurd (run_or_other _ q p)
   one_status deed m n (has_other_inputs p) (faults q) = absurd (run_or_other _ q p)
   one_status deed m n (has_other_inputs p) (is_no_program q) = absurd (never_both text p.tree q.fault p.reads q.reads)
   one_status deed m n (has_other_inputs p) (has_a_breach q) = absurd (breach_or_sound p.tree p.reads p.sound q)
   one_status deed m n (has_other_inputs p) (passes_a_limit q) = absurd (never_both text p.tree q.fault p.reads q.reads)
   one_status deed m n (has_other_inputs p) (has_other_inputs q) = refl
-  one_status deed m n (has_other_inputs p) (is_not_built q) = absurd (other_form p.tree q.tree p.reads q.reads p.takes.form q.form)
-  one_status deed m n (is_not_built p) (finishes q) = absurd (other_form q.tree p.tree q.reads p.reads q.means.form p.form)
-  one_status deed m n (is_not_built p) (faults q) = absurd (other_form q.tree p.tree q.reads p.reads q.means.form p.form)
-  one_status deed m n (is_not_built p) (is_no_program q) = absurd (never_both text p.tree q.fault p.reads q.reads)
-  one_status deed m n (is_not_built p) (has_a_breach q) = absurd (breach_or_sound p.tree p.reads p.sound q)
-  one_status deed m n (is_not_built p) (passes_a_limit q) = absurd (never_both text p.tree q.fault p.reads q.reads)
-  one_status deed m n (is_not_built p) (has_other_inputs q) = absurd (other_form q.tree p.tree q.reads p.reads q.takes.form p.form)
-  one_status deed m n (is_not_built p) (is_not_built q) = refl
 
 -- ---- runs come to an end
 
@@ -176,3 +159,17 @@ by_ending text r printed Broken p = absurd (never_means_broken p.tree p.means.in
 
 pub runs_end : RunsComeToAnEnd
 runs_end text r o p = by_ending text r o.text o.ending p
+
+pub accepted_run : AcceptedTextsAreRun
+accepted_run text r p = by (inputs_or_not (input_widths p.tree) r.numbers)
+  where
+    ended : Comes text (runs r) 0 ⊎ Comes text (runs r) 1 → Comes text (runs r) 0 ⊎ (Comes text (runs r) 1 ⊎ Comes text (runs r) 9)
+    ended (inl c) = inl c
+    ended (inr c) = inr (inl c)
+
+    by : ((zs : List ℤ) × AreInputs (input_widths p.tree) r.numbers zs) ⊎ ((zs : List ℤ) → AreInputs (input_widths p.tree) r.numbers zs → ⊥) →
+        Comes text (runs r) 0 ⊎ (Comes text (runs r) 1 ⊎ Comes text (runs r) 9)
+    by (inl is) =
+        ended (runs_end text r (meaning p.tree is.0 (turns_or_default r.turns_named))
+        (record { tree = p.tree; reads = p.reads; sound = p.sound; means = record { inputs = is.0; given = is.1; means = refl } }))
+    by (inr none) = inr (inr (has_other_inputs (record { tree = p.tree; reads = p.reads; sound = p.sound; takes = none })))

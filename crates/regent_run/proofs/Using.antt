@@ -1,5 +1,5 @@
 -- What a call takes from its source.
-use Rattle.std.proofs.Common.{◌≡◌, ◌≤◌, ◌+◌, ◌⊎◌, ◌∙◌, ℕ, inl, inr, List, [], Option, Some, None, Result, Ok, Err, IfSome, length, refl, ap, arith}
+use Rattle.std.proofs.Common.{◌≡◌, ◌≤◌, ◌+◌, ◌∙◌, ℕ, inl, inr, List, [], Option, Some, None, Result, Ok, Err, IfSome, length, refl, ap, arith}
 use Rattle.std.specs.Option.{option_map}
 use Rattle.std.proofs.lemmas.List.{length-append}
 use Rattle.run_io.specs.Faults.{one_more}
@@ -32,7 +32,6 @@ begins_as text asked deed source (Err verdict.NoMemory) h b = inr b
 begins_as text asked deed source (Err (verdict.NoProgram message)) h b = b
 begins_as text asked deed source (Err (verdict.PastLimit passed)) h b = b
 begins_as text asked deed source (Err (verdict.Refused message)) h b = b
-begins_as text asked deed source (Err verdict.NotBuilt) h b = b
 begins_as text asked deed source (Err verdict.OtherInputs) h b = b
 begins_as text asked deed source (Err (verdict.Finished printed trace)) h b = b
 begins_as text asked deed source (Err (verdict.Faulted printed message)) h b = b
@@ -46,7 +45,6 @@ steady_as before now (Err verdict.NoMemory) e = e
 steady_as before now (Err (verdict.NoProgram message)) e = e
 steady_as before now (Err (verdict.PastLimit passed)) e = e
 steady_as before now (Err (verdict.Refused message)) e = e
-steady_as before now (Err verdict.NotBuilt) e = e
 steady_as before now (Err verdict.OtherInputs) e = e
 steady_as before now (Err (verdict.Finished printed trace)) e = e
 steady_as before now (Err (verdict.Faulted printed message)) e = e
@@ -64,7 +62,6 @@ whole_as begun left (Err verdict.NoMemory) h = tt
 whole_as begun left (Err (verdict.NoProgram message)) h = h
 whole_as begun left (Err (verdict.PastLimit passed)) h = h
 whole_as begun left (Err (verdict.Refused message)) h = h
-whole_as begun left (Err verdict.NotBuilt) h = h
 whole_as begun left (Err verdict.OtherInputs) h = h
 whole_as begun left (Err (verdict.Finished printed trace)) h = h
 whole_as begun left (Err (verdict.Faulted printed message)) h = h
@@ -123,7 +120,6 @@ begins_told serves asked source plan verdict.NoMemory h b = inr b
 begins_told serves asked source plan (verdict.NoProgram message) h b = b
 begins_told serves asked source plan (verdict.PastLimit passed) h b = b
 begins_told serves asked source plan (verdict.Refused message) h b = b
-begins_told serves asked source plan verdict.NotBuilt h b = b
 begins_told serves asked source plan verdict.OtherInputs h b = b
 begins_told serves asked source plan (verdict.Finished printed trace) h b = b
 begins_told serves asked source plan (verdict.Faulted printed message) h b = b

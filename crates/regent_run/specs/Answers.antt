@@ -10,53 +10,59 @@ use Rattle.run_report.specs.FaultLines.{fault_text}
 use Rattle.regent_run.specs.Begins.{IsBegunFor, IsUnbegun}
 use Rattle.regent_run.specs.Calls.{Call}
 use Rattle.regent_run.specs.declared.limit.Limit.{Limit}
-use Rattle.regent_run.specs.Origins.{begun_for, text_asked}
-use Rattle.regent_run.specs.Programs.{Comes, HasBreach, HasOtherInputs, HasSyntaxError, IsAccepted, IsFinished, IsNotBuilt, IsRun, PassesLimit, faulted_with}
+use Rattle.regent_run.specs.Origins.{begun_for, text_asked, text_from}
+use Rattle.regent_run.specs.Programs.{Comes, HasBreach, HasOtherInputs, HasSyntaxError, IsAccepted, IsFinished, IsRun, PassesLimit, faulted_with}
 use Rattle.regent_run.specs.Reading.{TakesAtMost}
-use Rattle.regent_run.specs.Texts.{accepted_text, usage_message, read_message, memory_message, syntax_message, breach_message, limit_message, not_built_message, inputs_message}
+use Rattle.regent_run.specs.Texts.{accepted_text, usage_message, read_message, memory_message, syntax_message, breach_message, limit_message, inputs_message}
 use Rattle.regent_run.specs.Traces.{IsJournalOf, IsTrace, serving}
 use Rattle.regent_run.specs.Verdicts.{CantBeRead, HasFailed, HasGained, IsUntouched}
-use Rattle.regent_run.specs.Words.{Asks, Request, checks, request, runs}
+use Rattle.regent_run.specs.Words.{Asks, Deed, Request, checks, request, runs}
 
--- This holds of the text of the call: of the one that its begin of the source leaves, where the source tells it, or of
--- the sample.
-abbrev pub OfText : Call → (List ℕ → Type 0) → Type 0
-OfText call P = IfSome (text_asked (request call.words) call.source.later) P
+-- This is the text that is asked for: the one that the begin of the source leaves, as far as the source tells it, or the
+-- sample.
+pub record IsTheText (call : Call) (text : List ℕ) : Type 0 where
+  pub named : Request
+  pub is_asked : request call.words ≡ Some named
+  pub told : IfSome (text_from named.origin call.source.later) (λ known. text ≡ known)
+
+-- This holds of the text of the call, where the source tells it, or it is the sample.
+abbrev pub IfTold : Call → (List ℕ → Type 0) → Type 0
+IfTold call P = IfSome (text_asked (request call.words) call.source.later) P
 
 -- ---- what a call comes to, and how it ends
 
--- the trace of a run in this call
-abbrev pub IsTraced : Call → Run → List ℕ → Type 0
-IsTraced call r trace = IsTrace (λ journal. OfText call (λ text. IsJournalOf text r journal))
-    r.traces (serving call.serves r) trace
+-- the trace of a run of the text in this call
+abbrev pub IsTraced : Call → List ℕ → Run → List ℕ → Type 0
+IsTraced call text r trace =
+    IsTrace (λ journal. IsJournalOf text r journal) r.traces (serving call.serves r) trace
 
 -- What a command prints, and what it tells besides, with its status. A run prints what the program prints,
 -- by the meaning of its text, to its end or up to the first fault, and behind an end the dump that is asked for. It
--- tells its trace where that is asked for, and the fault. A check prints that the text is accepted.
+-- tells its trace where that is asked for, and the fault. A check prints that the text is accepted. Status, print and trace
+-- are of one text.
 pub data IsPrinted (call : Call) : ℕ → List ℕ → List ℕ → Type 0 where
-  finished : (r : Run) {printed trace : List ℕ} → Asks call.words (runs r) →
-      OfText call (λ text. IsFinished text r printed) → IsTraced call r trace →
+  finished : (text : List ℕ) (r : Run) {printed trace : List ℕ} → IsTheText call text →
+      Asks call.words (runs r) → IsFinished text r printed → IsTraced call text r trace →
       IsPrinted call 0 printed trace
-  faulted : (r : Run) {printed trace : List ℕ} (f : Fault) → Asks call.words (runs r) →
-      OfText call (λ text. IsRun text r (faulted_with printed f)) → IsTraced call r trace →
+  faulted : (text : List ℕ) (r : Run) {printed trace : List ℕ} (f : Fault) → IsTheText call text →
+      Asks call.words (runs r) → IsRun text r (faulted_with printed f) → IsTraced call text r trace →
       IsPrinted call 1 printed (trace ++ fault_text f)
-  accepted : Asks call.words checks → OfText call IsAccepted → IsPrinted call 0 accepted_text []
+  accepted : (text : List ℕ) → IsTheText call text → Asks call.words checks → IsAccepted text →
+      IsPrinted call 0 accepted_text []
 
 -- the status of an error, and the line that tells it
 pub data Fails (call : Call) : ℕ → List ℕ → Type 0 where
   usage : request call.words ≡ None → Fails call 2 usage_message
   unread : CantBeRead (request call.words) call.source.faults call.source.faults_now → Fails call 3 read_message
-  syntax : (line : ℕ) → OfText call (λ text. HasSyntaxError text line) →
-      Fails call 5 (syntax_message line)
-  types : (rule line : ℕ) → OfText call (λ text. HasBreach text rule line) →
-      Fails call 6 (breach_message rule line)
+  syntax : (text : List ℕ) (deed : Deed) (line : ℕ) → IsTheText call text → Asks call.words deed →
+      HasSyntaxError text line → Fails call 5 (syntax_message line)
+  types : (text : List ℕ) (deed : Deed) (rule line : ℕ) → IsTheText call text → Asks call.words deed →
+      HasBreach text rule line → Fails call 6 (breach_message rule line)
   no_memory : Fails call 7 memory_message
-  limit : (passed : Limit) → OfText call (λ text. PassesLimit text passed) →
-      Fails call 8 (limit_message passed)
-  inputs : (r : Run) → Asks call.words (runs r) →
-      OfText call (λ text. HasOtherInputs text r.numbers) → Fails call 9 inputs_message
-  not_built : (r : Run) → Asks call.words (runs r) → OfText call IsNotBuilt →
-      Fails call 10 not_built_message
+  limit : (text : List ℕ) (deed : Deed) (passed : Limit) → IsTheText call text → Asks call.words deed →
+      PassesLimit text passed → Fails call 8 (limit_message passed)
+  inputs : (text : List ℕ) (r : Run) → IsTheText call text → Asks call.words (runs r) →
+      HasOtherInputs text r.numbers → Fails call 9 inputs_message
 
 -- the output has gained what is printed, and the error output what is told besides
 pub record HasPrinted (printed told : List ℕ) (call : Call) : Type 0 where
@@ -68,19 +74,24 @@ pub record HasTold (message : List ℕ) (call : Call) : Type 0 where
   pub output : call.out.held_now ≡ call.out.held
   pub errors : Adds call.err.held message call.err.held_now
 
+-- no call of the source failed
+abbrev pub HasReadWell : Call → Type 0
+HasReadWell call = call.source.faults_now ≡ call.source.faults
+
 -- How a call ends, with its status. Where a write failed, which its sink wasn't sure of, the status is 4,
--- and nothing was written after it.
+-- and nothing was written after it. What was being written was told of a source of which no call had failed, but where
+-- it was the line that says that one had.
 pub data Ends (call : Call) : ℕ → Type 0 where
   prints : {status : ℕ} {printed told : List ℕ} → IsPrinted call status printed told →
       HasPrinted printed told call → Ends call status
   tells : {status : ℕ} {message : List ℕ} → Fails call status message → HasTold message call →
       Ends call status
   print_failed : {status : ℕ} {printed told : List ℕ} → IsPrinted call status printed told →
-      HasFailed printed call.out → IsUntouched call.err → Ends call 4
+      HasReadWell call → HasFailed printed call.out → IsUntouched call.err → Ends call 4
   told_failed : {status : ℕ} {printed told : List ℕ} → IsPrinted call status printed told →
-      HasGained printed call.out → HasFailed told call.err → Ends call 4
-  line_failed : {status : ℕ} {message : List ℕ} → Fails call status message → IsUntouched call.out →
-      HasFailed message call.err → Ends call 4
+      HasReadWell call → HasGained printed call.out → HasFailed told call.err → Ends call 4
+  line_failed : {status : ℕ} {message : List ℕ} → Fails call status message →
+      (status ≢ 3 → HasReadWell call) → IsUntouched call.out → HasFailed message call.err → Ends call 4
 
 -- ---- the status of a text
 
@@ -95,7 +106,7 @@ UnlessUnread status answer = UnlessStopped status answer ⊎ (answer ≡ 3)
 -- where the words ask for a text, it comes to this status alone, unless the call was stopped
 abbrev pub ComesTo : Call → ℕ → Type 0
 ComesTo call answer = (named : Request) → request call.words ≡ Some named →
-    OfText call (λ text. (n : ℕ) → Comes text named.deed n → UnlessUnread n answer)
+    IfTold call (λ text. (n : ℕ) → Comes text named.deed n → UnlessUnread n answer)
 
 -- no count of faults rose in the call
 pub record NoneRose (call : Call) : Type 0 where
@@ -106,7 +117,7 @@ pub record NoneRose (call : Call) : Type 0 where
 -- then it is this status, unless memory ran out
 abbrev pub IsComplete : Call → ℕ → Type 0
 IsComplete call answer = NoneRose call → (named : Request) → request call.words ≡ Some named →
-    OfText call (λ text. (n : ℕ) → Comes text named.deed n → (answer ≡ n) ⊎ (answer ≡ 7))
+    IfTold call (λ text. (n : ℕ) → Comes text named.deed n → (answer ≡ n) ⊎ (answer ≡ 7))
 
 -- ---- sinks that are sure
 
@@ -154,14 +165,14 @@ pub record IsAnswered (call : Call) (answer : ℕ) : Type 0 where
   pub ends : Ends call answer
   -- Words that are refused come to 2.
   pub refuses : request call.words ≡ None → UnlessStopped 2 answer
-  -- A text with its command comes to one of 0, 1, 5, 6, 8, 9 and 10 at most, and that is the answer
+  -- A text with its command comes to one of 0, 1, 5, 6, 8 and 9 at most, and that is the answer
   -- unless the call was stopped. So where nothing failed, it is the answer, or memory ran out.
   pub comes : ComesTo call answer
   pub complete : IsComplete call answer
   -- No write fails where the sinks are sure of what may be written.
   pub sure : IsSureOfOutput call → IsSureOfErrors call → answer ≢ 4
   -- Nothing failed but where 3 or 4 says so.
-  pub read : answer ≢ 3 → answer ≢ 4 → call.source.faults_now ≡ call.source.faults
+  pub read : answer ≢ 3 → answer ≢ 4 → HasReadWell call
   pub steady : answer ≢ 4 →
       (call.out.faults_now ≡ call.out.faults) × (call.err.faults_now ≡ call.err.faults)
   -- The source is begun once at most, by the file that the words name, and not for a sample.

@@ -1,5 +1,5 @@
 -- The text of a call: what the next begin of the source leaves, or the sample that is asked for.
-use Rattle.std.specs.Prelude.{ℕ, List, Option, Some, None}
+use Rattle.std.specs.Prelude.{◌≡◌, ℕ, List, Option, Some, None, IfSome}
 use Rattle.std.specs.Option.{option_map}
 use Rattle.run_io.specs.Source.{next_left}
 use Rattle.sample_maker.specs.Texts.{sample_text}
@@ -14,6 +14,10 @@ text_from (sample colours) later = Some (sample_text colours)
 abbrev pub text_asked : Option Request → Option (List (List ℕ)) → Option (List ℕ)
 text_asked None later = None
 text_asked (Some named) later = text_from named.origin later
+
+-- This holds of a text that is read, which is the one that is told, where one is told.
+abbrev pub OfOneText : Option (List ℕ) → (List ℕ → Type 0) → Type 0
+OfOneText told P = (text : List ℕ) × IfSome told (λ known. text ≡ known) × P text
 
 -- what the begin for an origin leaves, which a sample doesn't need
 abbrev pub begun_from : Origin → Option (List (List ℕ)) → Option (List ℕ)

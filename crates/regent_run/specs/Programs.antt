@@ -1,5 +1,5 @@
 -- What a text comes to, by what is to be done with it.
-use Rattle.std.specs.Prelude.{Contains, Err, List, None, Ok, Option, Some, false, true, [], ℕ, ℤ, ◌≡◌, ◌++◌, ◌⊎◌}
+use Rattle.std.specs.Prelude.{Contains, Err, List, None, Ok, Option, Some, [], ℕ, ℤ, ◌≡◌, ◌++◌, ◌⊎◌}
 use Rattle.check_rules.specs.Acceptance.{input_widths}
 use Rattle.check_rules.specs.Breaches.{breaches, breaks}
 use Rattle.regent_lex.specs.declared.fault.LexKind.{LexKind}
@@ -15,7 +15,6 @@ use Rattle.regent_tree.specs.Syntax.{Tree}
 use Rattle.regent_reader.specs.declared.fault.ReadFault.{ReadFault}
 use Rattle.regent_reader.specs.declared.fault.ReadFault.TheVariants.{TooLong, Lex, TooDeep, NoProgram, TooMany}
 use Rattle.regent_reader.specs.Texts.{Reads}
-use Rattle.local_form.specs.LocalForm.{is_local_program}
 use Rattle.regent_run.specs.declared.limit.Limit.{Limit}
 use Rattle.regent_run.specs.declared.limit.Limit.TheVariants as limit
 use Rattle.regent_run.specs.Inputs.{AreInputs}
@@ -80,17 +79,9 @@ pub record IsAccepted (text : List ℕ) : Type 0 where
   pub reads : Reads text (Ok tree)
   pub sound : breaches tree ≡ []
 
--- the text is an accepted program that can't be run yet: it isn't of the form whose tasks hand regions over by name
-pub record IsNotBuilt (text : List ℕ) : Type 0 where
-  pub tree : Tree
-  pub reads : Reads text (Ok tree)
-  pub sound : breaches tree ≡ []
-  pub form : is_local_program tree ≡ false
-
--- the tasks hand regions over by name, and the words aren't the numbers that the program takes
-pub record TakesOthers (tree : Tree) (numbers : List (List ℕ)) : Type 0 where
-  pub form : is_local_program tree ≡ true
-  pub other : (inputs : List ℤ) → AreInputs (input_widths tree) numbers inputs → ⊥
+-- the words aren't the numbers that the program takes
+abbrev pub TakesOthers : Tree → List (List ℕ) → Type 0
+TakesOthers tree numbers = (inputs : List ℤ) → AreInputs (input_widths tree) numbers inputs → ⊥
 
 pub record HasOtherInputs (text : List ℕ) (numbers : List (List ℕ)) : Type 0 where
   pub tree : Tree
@@ -98,10 +89,8 @@ pub record HasOtherInputs (text : List ℕ) (numbers : List (List ℕ)) : Type 0
   pub sound : breaches tree ≡ []
   pub takes : TakesOthers tree numbers
 
--- the tasks hand regions over by name, the words are the numbers that the program takes, and this is what it means,
--- with these numbers and turns
+-- the words are the numbers that the program takes, and this is what it means, with these numbers and turns
 pub record Means (tree : Tree) (r : Run) (o : Outcome) : Type 0 where
-  pub form : is_local_program tree ≡ true
   pub inputs : List ℤ
   pub given : AreInputs (input_widths tree) r.numbers inputs
   pub means : meaning tree inputs (turns_or_default r.turns_named) ≡ o
@@ -144,7 +133,6 @@ pub data Comes (text : List ℕ) : Deed → ℕ → Type 0 where
   has_a_breach : {deed : Deed} {rule line : ℕ} → HasBreach text rule line → Comes text deed 6
   passes_a_limit : {deed : Deed} {passed : Limit} → PassesLimit text passed → Comes text deed 8
   has_other_inputs : {r : Run} → HasOtherInputs text r.numbers → Comes text (runs r) 9
-  is_not_built : {r : Run} → IsNotBuilt text → Comes text (runs r) 10
 
 -- ---- laws of statuses
 
@@ -157,3 +145,8 @@ ComesToOneStatus = (text : List ℕ) (deed : Deed) (m n : ℕ) → Comes text de
 abbrev pub RunsComeToAnEnd : Type 0
 RunsComeToAnEnd = (text : List ℕ) (r : Run) (o : Outcome) → IsRun text r o →
     Comes text (runs r) 0 ⊎ Comes text (runs r) 1
+
+-- And each accepted text that is run comes to one of these, or its words aren't the numbers that it takes.
+abbrev pub AcceptedTextsAreRun : Type 0
+AcceptedTextsAreRun = (text : List ℕ) (r : Run) → IsAccepted text →
+    Comes text (runs r) 0 ⊎ (Comes text (runs r) 1 ⊎ Comes text (runs r) 9)

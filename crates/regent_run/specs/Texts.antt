@@ -54,8 +54,5 @@ limit_named Regions = codes "regions 4"
 abbrev pub limit_message : Limit → List ℕ
 limit_message l = codes "error: limit " ++ limit_named l ++ 10 ∷ []
 
-abbrev pub not_built_message : List ℕ
-not_built_message = codes "error: not built" ++ 10 ∷ []
-
 abbrev pub inputs_message : List ℕ
 inputs_message = codes "error: inputs" ++ 10 ∷ []

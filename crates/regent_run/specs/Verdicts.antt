@@ -1,17 +1,17 @@
 -- What a call comes to before it writes, and what it then writes.
-use Rattle.std.specs.Prelude.{◌≡◌, ◌<◌, ◌^◌, ◌⊎◌, ◌++◌, ℕ, ℤ, false, Contains, List, [], Option, Some, None, Result, Ok, Err, IfSome, length, string_bytes}
+use Rattle.std.specs.Prelude.{◌≡◌, ◌<◌, ◌^◌, ◌⊎◌, ◌++◌, ℕ, ℤ, Contains, List, [], Option, Some, None, Result, Ok, Err, length, string_bytes}
 use Rattle.run_io.specs.Faults.{Rose}
 use Rattle.run_io.specs.Sink.{Adds, AddsPrefix}
 use Rattle.regent_run.specs.Calls.{SinkChange}
 use Rattle.regent_run.specs.declared.verdict.Verdict.{Verdict}
-use Rattle.regent_run.specs.declared.verdict.Verdict.TheVariants.{Usage, Unread, NoMemory, NoProgram, PastLimit, Refused, NotBuilt, OtherInputs, Finished, Faulted, Accepted}
+use Rattle.regent_run.specs.declared.verdict.Verdict.TheVariants.{Usage, Unread, NoMemory, NoProgram, PastLimit, Refused, OtherInputs, Finished, Faulted, Accepted}
 use Rattle.command_words.specs.Commands.{Run, turns_or_default, workers_or_default}
 use Rattle.regent_run.specs.Traces.{FinishesJob, IsJournalOf, IsTrace, serving}
 use Rattle.regent_run.specs.Words.{AsksNoFile, Deed, Request, checks, runs}
-use Rattle.regent_run.specs.Texts.{accepted_text, dump_by, usage_message, read_message, memory_message, syntax_message, breach_message, limit_message, not_built_message, inputs_message}
+use Rattle.regent_run.specs.Texts.{accepted_text, dump_by, usage_message, read_message, memory_message, syntax_message, breach_message, limit_message, inputs_message}
 use Rattle.check_rules.specs.Acceptance.{input_widths}
 use Rattle.check_rules.specs.Breaches.{breaches, breaks}
-use Rattle.code_laws.specs.LocalPrograms.{IsLocalProgramRun}
+use Rattle.code_laws.specs.AcceptedPrograms.{IsProgramRun}
 use Rattle.code_laws.specs.Programs.{job_of}
 use Rattle.machine_terms.specs.Jobs.{order_run}
 use Rattle.regent_tree.specs.declared.outcome.Fault.{Fault}
@@ -21,12 +21,11 @@ use Rattle.run_report.specs.Dumps.{roots_of}
 use Rattle.run_report.specs.FaultLines.{fault_text}
 use Rattle.regent_reader.specs.Texts.{Reads}
 use Rattle.regent_run.specs.Inputs.{AreInputs}
-use Rattle.regent_run.specs.Origins.{text_asked}
+use Rattle.regent_run.specs.Origins.{OfOneText, text_asked}
 use Rattle.regent_run.specs.declared.plan.Plan.{Plan}
 use Rattle.regent_tree.specs.Syntax.{Tree}
 use Rattle.regent_reader.specs.declared.fault.ReadFault.{ReadFault}
-use Rattle.local_form.specs.LocalForm.{is_local_program}
-use Rattle.regent_run.specs.Programs.{HasBreach, HasOtherInputs, HasSyntaxError, IsAccepted, IsFinished, IsNotBuilt, IsRun, PassesLimit, TakesOthers, faulted_with, finished_with, limit_passed, syntax_line}
+use Rattle.regent_run.specs.Programs.{HasBreach, HasOtherInputs, HasSyntaxError, IsAccepted, IsFinished, IsRun, PassesLimit, TakesOthers, faulted_with, finished_with, limit_passed, syntax_line}
 
 abbrev pub status_of : Verdict → ℕ
 status_of Usage = 2
@@ -35,7 +34,6 @@ status_of NoMemory = 7
 status_of (NoProgram message) = 5
 status_of (PastLimit passed) = 8
 status_of (Refused message) = 6
-status_of NotBuilt = 10
 status_of OtherInputs = 9
 status_of (Finished text trace) = 0
 status_of (Faulted text message) = 1
@@ -55,7 +53,6 @@ err_text NoMemory = memory_message
 err_text (NoProgram message) = string_bytes message
 err_text (PastLimit passed) = limit_message passed
 err_text (Refused message) = string_bytes message
-err_text NotBuilt = not_built_message
 err_text OtherInputs = inputs_message
 err_text (Finished text trace) = trace.items
 err_text (Faulted text message) = message.items
@@ -67,7 +64,7 @@ err_text Accepted = []
 pub record IsPlan (tree : Tree) (r : Run) (plan : Plan) : Type 0 where
   pub inputs : List ℤ
   pub given : AreInputs (input_widths tree) r.numbers inputs
-  pub program : IsLocalProgramRun tree inputs
+  pub program : IsProgramRun tree inputs
   pub job : plan.job ≡ job_of tree inputs (turns_or_default r.turns_named)
   pub few : turns_or_default r.turns_named < 2 ^ 64
   pub workers : plan.workers ≡ workers_or_default r.workers_named
@@ -90,7 +87,6 @@ Judges text deed (Err (NoProgram message)) =
 Judges text deed (Err (PastLimit passed)) = PassesLimit text passed
 Judges text deed (Err (Refused message)) = (rule : ℕ) × (line : ℕ)
     × (string_bytes message ≡ breach_message rule line) × HasBreach text rule line
-Judges text deed (Err NotBuilt) = (r : Run) × (deed ≡ runs r) × IsNotBuilt text
 Judges text deed (Err OtherInputs) = (r : Run) × (deed ≡ runs r) × HasOtherInputs text r.numbers
 Judges text deed (Err Accepted) = (deed ≡ checks) × IsAccepted text
 Judges text deed (Err _) = ⊥
@@ -99,7 +95,6 @@ Judges text deed (Err _) = ⊥
 abbrev pub JudgesRun : Tree → Run → Result Plan Verdict → Type 0
 JudgesRun tree r (Ok plan) = IsPlan tree r plan
 JudgesRun tree r (Err NoMemory) = Unit {0}
-JudgesRun tree r (Err NotBuilt) = is_local_program tree ≡ false
 JudgesRun tree r (Err OtherInputs) = TakesOthers tree r.numbers
 JudgesRun tree r (Err _) = ⊥
 
@@ -129,25 +124,9 @@ TellsFault fault (NoProgram message) =
 TellsFault fault (PastLimit passed) = limit_passed fault ≡ Some passed
 TellsFault fault _ = ⊥
 
--- the same of a text where it is told
+-- the same of one text, which is the one that is told, where one is told
 abbrev pub SaysOfText : Option (List ℕ) → Deed → Result Plan Verdict → Type 0
-SaysOfText told deed (Ok plan) = (r : Run) × (deed ≡ runs r) × (tree : Tree)
-    × IfSome told (λ text. Reads text (Ok tree)) × IsPlan tree r plan
-SaysOfText told deed (Err NoMemory) = Unit {0}
-SaysOfText told deed (Err (NoProgram message)) =
-    (line : ℕ) × (string_bytes message ≡ syntax_message line)
-    × IfSome told (λ text. HasSyntaxError text line)
-SaysOfText told deed (Err (PastLimit passed)) =
-    IfSome told (λ text. PassesLimit text passed)
-SaysOfText told deed (Err (Refused message)) = (rule : ℕ) × (line : ℕ)
-    × (string_bytes message ≡ breach_message rule line)
-    × IfSome told (λ text. HasBreach text rule line)
-SaysOfText told deed (Err NotBuilt) =
-    (r : Run) × (deed ≡ runs r) × IfSome told IsNotBuilt
-SaysOfText told deed (Err OtherInputs) = (r : Run) × (deed ≡ runs r)
-    × IfSome told (λ text. HasOtherInputs text r.numbers)
-SaysOfText told deed (Err Accepted) = (deed ≡ checks) × IfSome told IsAccepted
-SaysOfText told deed (Err _) = ⊥
+SaysOfText told deed judged = OfOneText told (λ text. Judges text deed judged)
 
 -- a file is asked for, and the source's count of faults rose
 pub record CantBeRead (asked : Option Request) (before now : ℕ) : Type 0 where
@@ -185,16 +164,20 @@ abbrev pub TellsPlan : (ℕ → ℕ) → Plan → Verdict → Type 0
 TellsPlan serves plan NoMemory = Unit {0}
 TellsPlan serves plan v = IsOfRun serves plan v
 
--- What a verdict says of a text where it is told, where so many workers serve.
-abbrev pub TellsOfText : (ℕ → ℕ) → Option (List ℕ) → Deed → Verdict → Type 0
-TellsOfText serves told deed (Finished printed trace) = (r : Run) × (deed ≡ runs r)
-    × IsTrace (λ journal. IfSome told (λ text. IsJournalOf text r journal)) r.traces (serving serves r) trace.items
-    × IfSome told (λ text. IsFinished text r printed)
-TellsOfText serves told deed (Faulted printed message) = (r : Run) × (deed ≡ runs r) × (f : Fault) × (trace : List ℕ)
+-- What a verdict says of a text, where so many workers serve.
+abbrev pub TellsText : (ℕ → ℕ) → List ℕ → Deed → Verdict → Type 0
+TellsText serves text deed (Finished printed trace) = (r : Run) × (deed ≡ runs r)
+    × IsTrace (λ journal. IsJournalOf text r journal) r.traces (serving serves r) trace.items
+    × IsFinished text r printed
+TellsText serves text deed (Faulted printed message) = (r : Run) × (deed ≡ runs r) × (f : Fault) × (trace : List ℕ)
     × (message.items ≡ trace ++ fault_text f)
-    × IsTrace (λ journal. IfSome told (λ text. IsJournalOf text r journal)) r.traces (serving serves r) trace
-    × IfSome told (λ text. IsRun text r (faulted_with printed f))
-TellsOfText serves told deed v = SaysOfText told deed (Err v)
+    × IsTrace (λ journal. IsJournalOf text r journal) r.traces (serving serves r) trace
+    × IsRun text r (faulted_with printed f)
+TellsText serves text deed v = Judges text deed (Err v)
+
+-- of one text, which is the one that is told, where one is told
+abbrev pub TellsOfText : (ℕ → ℕ) → Option (List ℕ) → Deed → Verdict → Type 0
+TellsOfText serves told deed v = OfOneText told (λ text. TellsText serves text deed v)
 
 -- and where this is asked for
 abbrev pub Tells : (ℕ → ℕ) → Option Request → Option (List (List ℕ)) → ℕ → ℕ → Verdict → Type 0

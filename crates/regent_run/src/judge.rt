@@ -2,6 +2,7 @@
 
 ghost use Rattle.std.specs.Prelude.{◌≡◌, [], Some};
 ghost use Rattle.check_rules.specs.Breaches.{breaches};
+ghost use Rattle.expression_laws.specs.WrittenStatements.{AreWrittenTasks};
 ghost use Rattle.regent_tree.specs.Limits.{WithinLimits};
 ghost use Rattle.regent_tree.specs.PlainProgram.{tree_of};
 ghost use Rattle.regent_reader.specs.declared.fault.ReadFault.TheVariants.{Lex};
@@ -99,6 +100,7 @@ fn broken_rule(alloc: Global, rule: u8, line: u32) -> Verdict
 fn judge_accepted(alloc: Global, program: &Accepted, deed: &Deed<'_, '_>) -> Result<Plan, Verdict>
     requires within { WithinLimits (tree_of program.now) }
     requires sound { breaches (tree_of program.now) ≡ [] }
+    requires written { AreWrittenTasks (tree_of program.now) }
     ensures { JudgesAccepted (tree_of program.now) (deed_given deed.now) result }
 {
     match deed {
@@ -109,7 +111,8 @@ fn judge_accepted(alloc: Global, program: &Accepted, deed: &Deed<'_, '_>) -> Res
 
 /// What a program comes to.
 fn judge_program(alloc: Global, program: Program, deed: &Deed<'_, '_>) -> Result<Plan, Verdict>
-    requires { WithinLimits (tree_of program) }
+    requires within { WithinLimits (tree_of program) }
+    requires written { AreWrittenTasks (tree_of program) }
     ensures { JudgesProgram (tree_of program) (deed_given deed.now) result }
 {
     match check(alloc, program) {

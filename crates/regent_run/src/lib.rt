@@ -21,7 +21,8 @@ mod served;
 mod text;
 mod verdict;
 
-pub use laws::{runs_come_to_an_end, texts_have_one_status};
+pub use laws::{accepted_texts_are_run, runs_come_to_an_end, texts_have_one_status};
+use parallel_run::Gate;
 pub use parallel_run::{Origin, Settled, settle_run};
 pub use program::{regent_here, regent_main};
 use run_io::{Sink, Source};
@@ -29,7 +30,6 @@ use served::{alone, with_workers};
 use std::alloc::Global;
 use std::sync::Wait;
 use std::thread::Threads;
-use worker_gate::Gate;
 
 /// Does what the words say, and gives the status. Programs are run by as many workers as the words name, 4 where they
 /// name none, in threads of the runtime and through the gate; with 0 workers they are run in order.
@@ -38,8 +38,8 @@ use worker_gate::Gate;
 /// file's name, or the sample of so many colours. The statuses: 0 the program finished
 /// or is accepted, 1 it faulted, 2 the words are refused, 3 the text can't be read, 4 a write failed, 5 the text is
 /// no program, 6 the program breaches a rule, 7 memory ran out, 8 the text passes a limit, 9 the numbers aren't
-/// those that the program takes, 10 the program can't be run yet. What is printed, or `accepted`, goes to `out`,
-/// and then the trace that is asked for and the line of a fault, or one line about an error, to `err`.
+/// those that the program takes. What is printed, or `accepted`, goes to `out`, and then the trace that is asked for
+/// and the line of a fault, or one line about an error, to `err`.
 pub fn regent_run<S: Source, K: Sink, E: Sink, G: Gate, R: Threads + Wait + Sync>(
     rt: &R,
     alloc: Global,

@@ -1,10 +1,10 @@
 //! The plan of a run: an accepted program is compiled, with the numbers that the words are.
 
-ghost use Rattle.std.specs.Prelude.{◌≡◌, ℤ, [], IfOk, List, true};
+ghost use Rattle.std.specs.Prelude.{◌≡◌, ℤ, [], IfOk, List};
 ghost use Rattle.check_rules.specs.Breaches.{breaches};
 ghost use Rattle.code_laws.specs.Programs.{job_of};
 ghost use Rattle.command_words.specs.Given.{run_given};
-ghost use Rattle.local_form.specs.LocalForm.{is_local_program};
+ghost use Rattle.expression_laws.specs.WrittenStatements.{AreWrittenTasks};
 ghost use Rattle.regent_tree.specs.Limits.{WithinLimits};
 ghost use Rattle.regent_tree.specs.PlainProgram.{tree_of};
 ghost use Rattle.regent_run.specs.Verdicts.{JudgesRun};
@@ -14,7 +14,6 @@ use crate::verdict::Verdict;
 use check_rules::Accepted;
 use code_gen::compile;
 use command_words::{Run, turns_or_default, workers_or_default};
-use local_form::is_local;
 use plain_values::{Sequence, Shared};
 use std::alloc::{AllocError, Global};
 use task_code::Job;
@@ -48,11 +47,11 @@ fn job_of(
     })
 }
 
-/// The plan for an accepted program whose tasks hand regions over by name, where the words are the numbers that it takes.
-fn plan_local(alloc: Global, program: &Accepted, asked: &Run<'_>) -> Result<Plan, Verdict>
+/// The plan for an accepted program that is to be run, where the words are the numbers that it takes.
+pub fn judge_run(alloc: Global, program: &Accepted, asked: &Run<'_>) -> Result<Plan, Verdict>
     requires within { WithinLimits (tree_of program.now) }
     requires sound { breaches (tree_of program.now) ≡ [] }
-    requires local { is_local_program (tree_of program.now) ≡ true }
+    requires written { AreWrittenTasks (tree_of program.now) }
     ensures { JudgesRun (tree_of program.now) (run_given asked.now) result }
 {
     let Some(inputs) = numbers_of(alloc, program.inputs(), asked.numbers.as_slice())? else {
@@ -64,17 +63,4 @@ fn plan_local(alloc: Global, program: &Accepted, asked: &Run<'_>) -> Result<Plan
         dumps: asked.dump,
         traces: asked.trace,
     })
-}
-
-/// The plan for an accepted program that is to be run.
-pub fn judge_run(alloc: Global, program: &Accepted, asked: &Run<'_>) -> Result<Plan, Verdict>
-    requires within { WithinLimits (tree_of program.now) }
-    requires sound { breaches (tree_of program.now) ≡ [] }
-    ensures { JudgesRun (tree_of program.now) (run_given asked.now) result }
-{
-    if is_local(alloc, program.program())? {
-        plan_local(alloc, program, asked)
-    } else {
-        Err(Verdict::NotBuilt)
-    }
 }

@@ -9,6 +9,7 @@ ghost use Rattle.regent_run.specs.Traces.{all_serve};
 ghost use Rattle.regent_run.specs.Words.{AsksNoFile, request};
 
 use crate::regent_run;
+use parallel_run::{Gate, OpenGate};
 use run_io::{FileSource, Sink, Source, StdSink};
 use std::alloc::Global;
 use std::env::{self, Env};
@@ -16,7 +17,6 @@ use std::io::{self, ErrorKind, Write};
 use std::rt::Files;
 use std::sync::Wait;
 use std::thread::Threads;
-use worker_gate::{Gate, OpenGate};
 
 /// The status where the words can't be had: 2 where one isn't text, and else memory ran out.
 fn wordless_status(kind: ErrorKind) -> u8

@@ -1,7 +1,7 @@
 //! Runs that are planned, by workers or in order, and what they come to.
 
 ghost use Rattle.std.specs.Prelude.{◌≡◌, ◌<◌, ◌≤◌, ◌↔◌, ◌++◌, ℕ, IfOk, List, Some, true};
-ghost use Rattle.code_laws.specs.LocalPrograms.{IsEnded};
+ghost use Rattle.code_laws.specs.AcceptedPrograms.{IsEnded};
 ghost use Rattle.machine_terms.specs.Jobs.{order_run};
 ghost use Rattle.parallel_run.specs.Runs.{outcome_of};
 ghost use Rattle.regent_tree.specs.declared.outcome.RootImage.{RootImage};
@@ -15,7 +15,7 @@ ghost use Rattle.regent_run.specs.Verdicts.{IsOfOutcome, IsSound, TellsPlan};
 use crate::plan::Plan;
 use crate::verdict::Verdict;
 use command_words::MOST_WORKERS;
-use parallel_run::{Ran, run_job};
+use parallel_run::{Gate, Ran, run_job};
 use plain_run::run_in_order;
 use plain_values::Sequence;
 use regent_tree::{Ending, Fault, Outcome};
@@ -24,7 +24,6 @@ use std::alloc::{AllocError, Global};
 use std::sync::Wait;
 use std::thread::Threads;
 use task_code::Code;
-use worker_gate::Gate;
 
 /// The dump of the roots at the end of a run, where it is asked for.
 fn dump_by(

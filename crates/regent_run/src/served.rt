@@ -11,11 +11,11 @@ ghost use Rattle.regent_run.specs.Words.{AsksNoFile, request};
 use crate::judge::judge;
 use crate::running::{run_alone, run_by_workers};
 use crate::verdict::Verdict;
+use parallel_run::Gate;
 use run_io::Source;
 use std::alloc::Global;
 use std::sync::Wait;
 use std::thread::Threads;
-use worker_gate::Gate;
 
 /// What the words and the source come to, where workers serve.
 pub fn with_workers<S: Source, G: Gate, R: Threads + Wait + Sync>(

@@ -27,8 +27,6 @@ pub enum Verdict {
     Refused {
         message: String,
     },
-    /// The text is an accepted program that can't be run yet.
-    NotBuilt,
     /// The words aren't the numbers that the program takes.
     OtherInputs,
     /// The program has printed this text, and behind it stands the dump that was asked for. The trace is there where
@@ -70,7 +68,6 @@ impl Verdict {
             Verdict::Refused { .. } => 6,
             Verdict::PastLimit(_) => 8,
             Verdict::OtherInputs => 9,
-            Verdict::NotBuilt => 10,
             Verdict::Finished { .. } | Verdict::Accepted => 0,
             Verdict::Faulted { .. } => 1,
         }
@@ -99,7 +96,6 @@ impl Verdict {
             Verdict::NoProgram { message } => message.as_bytes(),
             Verdict::PastLimit(passed) => passed.message(),
             Verdict::Refused { message } => message.as_bytes(),
-            Verdict::NotBuilt => b"error: not built\n",
             Verdict::OtherInputs => b"error: inputs\n",
             Verdict::Finished { trace, .. } => trace.as_slice(),
             Verdict::Faulted { message, .. } => message.as_slice(),

@@ -1,26 +1,31 @@
--- What holds of whole programs holds of those that texts spell, since each fill of a text names a field.
+-- What holds of accepted programs holds of those that texts spell, since their trees are as the reader gives them.
 use Rattle.std.proofs.Common.{ℕ, ℤ, List}
 use Rattle.regent_tree.specs.Syntax.{Tree}
-use Rattle.text_laws.proofs.Texts.{read_trees_are_written}
-use Rattle.sound_code.specs.Programs.{IsWholeProgramRun}
-use Rattle.sound_code.proofs.Rules.{whole_programs_are_sound}
-use Rattle.sound_code.proofs.Written.{written_names_fields}
-use Rattle.sound_boards.specs.Texts.{BoardsOfTextsKeepAll, IsTextRun, NoBoardOfTextsBreaks, TextsRunSoundly}
+use Rattle.written_trees.proofs.Texts.{read_trees_are_written}
+use Rattle.sound_code.proofs.Rules.{accepted_code_keeps_rules, whole_programs_are_sound}
+use Rattle.sound_boards.specs.Texts.{AcceptedTextsKeepRules, BoardsOfTextsKeepAll, IsTextRun, NoBoardOfTextsBreaks, TextsRunSoundly}
 use Rattle.sound_boards.proofs.Whole.{no_operation_is_broken, no_segment_breaks, whole_boards_keep_all}
+use Rattle.code_laws.specs.AcceptedPrograms.{IsProgramRun}
 
-whole : (text : List ℕ) (tree : Tree) (inputs : List ℤ) → IsTextRun text tree inputs → IsWholeProgramRun tree inputs
-whole text tree inputs p = record {
-  run = p.run;
-  fields = written_names_fields tree (read_trees_are_written text tree p.reads);
+pub program_run : (text : List ℕ) (tree : Tree) (inputs : List ℤ) → IsTextRun text tree inputs → IsProgramRun tree inputs
+program_run text tree inputs p = record {
+  within = p.within;
+  accepted = p.accepted;
+  written = read_trees_are_written text tree p.reads;
+  numbers = p.numbers;
 }
 
+pub accepted_texts_keep_rules : AcceptedTextsKeepRules
+accepted_texts_keep_rules text tree p =
+    accepted_code_keeps_rules tree (record { within = p.within; accepted = p.accepted; written = read_trees_are_written text tree p.reads })
+
 pub texts_run_soundly : TextsRunSoundly
-texts_run_soundly text tree inputs p = whole_programs_are_sound tree inputs (whole text tree inputs p)
+texts_run_soundly text tree inputs p = whole_programs_are_sound tree inputs (program_run text tree inputs p)
 
 pub boards_of_texts_keep_all : BoardsOfTextsKeepAll
-boards_of_texts_keep_all text tree inputs p = whole_boards_keep_all tree inputs (whole text tree inputs p)
+boards_of_texts_keep_all text tree inputs p = whole_boards_keep_all tree inputs (program_run text tree inputs p)
 
 pub no_board_of_texts_breaks : NoBoardOfTextsBreaks
 no_board_of_texts_breaks text tree inputs p =
-    let w = whole text tree inputs p in
+    let w = program_run text tree inputs p in
     (no_segment_breaks tree inputs w, no_operation_is_broken tree inputs w)

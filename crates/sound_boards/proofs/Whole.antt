@@ -18,13 +18,14 @@ use Rattle.code_laws.proofs.Openings.{least_slots}
 use Rattle.fit_rules.specs.Fits.{Program}
 use Rattle.fit_boards.specs.Steps.{FirstFits, IsSoundJob}
 use Rattle.fit_boards.proofs.Journals.{boards_fit, boards_keep_declared, no_board_breaks, none_is_broken}
-use Rattle.sound_code.specs.Programs.{IsWholeProgramRun, LocalRunsSoundly, entry_code, first_world}
+use Rattle.sound_code.specs.Programs.{ProgramRunsSoundly, entry_code, first_world}
 use Rattle.sound_code.proofs.Rules.{whole_programs_are_sound}
 use Rattle.sound_boards.specs.Boards.{BoardsKeepAll, NoOperationIsBroken, NoSegmentBreaks, OfAllBoards, OfEachOut}
 use Rattle.sound_boards.specs.Boards.{WholeBoardsKeepAll}
+use Rattle.code_laws.specs.AcceptedPrograms.{IsProgramRun}
 
-module _ (tree : Tree) (inputs : List ℤ) (p : IsWholeProgramRun tree inputs) where
-  abbrev runs : LocalRunsSoundly tree inputs
+module _ (tree : Tree) (inputs : List ℤ) (p : IsProgramRun tree inputs) where
+  abbrev runs : ProgramRunsSoundly tree inputs
   runs = whole_programs_are_sound tree inputs p
 
   abbrev g : Program
@@ -37,7 +38,7 @@ module _ (tree : Tree) (inputs : List ℤ) (p : IsWholeProgramRun tree inputs) w
   first_task = entry_code tree
 
   typed : IsTypedRun (forms_by true true tree entry) tree inputs
-  typed = local_run tree inputs p.run
+  typed = local_run tree inputs p
 
   job_sound : (turns : ℕ) → turns < 2 ^ 64 → IsSoundJob g (job_of tree inputs turns)
   job_sound turns few = record { sound = runs.tasks.all; code = sym runs.tasks.code; turns = few }
@@ -64,13 +65,14 @@ module _ (tree : Tree) (inputs : List ℤ) (p : IsWholeProgramRun tree inputs) w
   keep_all = record {
     program = g;
     code = runs.tasks.code;
+    of_tree = runs.tasks.of_tree;
     sound = runs.tasks.all;
     fits = λ turns few. boards_fit g (job_of tree inputs turns) first_task (job_sound turns few) (first_fits turns few);
     declared = λ turns few.
         boards_keep_declared g (job_of tree inputs turns) first_task (job_sound turns few) (first_fits turns few);
   }
 
-  segments_unbroken : OfEachOut tree inputs (λ b. (segment b).ends ≢ yield.MachineFault)
+  segments_unbroken : OfEachOut tree inputs (λ log s k b. (segment b).ends ≢ yield.MachineFault)
   segments_unbroken turns few =
       no_board_breaks g (job_of tree inputs turns) first_task (job_sound turns few) (first_fits turns few)
 

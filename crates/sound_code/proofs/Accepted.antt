@@ -45,7 +45,6 @@ use Rattle.sound_code.proofs.Declaring.{has_among}
 use Rattle.sound_code.proofs.Grounds.{HasSaid, IsPlaced, IsTold, Kept, OfType, tells_apart, tells_part, tells_within}
 use Rattle.sound_code.proofs.Told.{ToldBlock}
 use Rattle.expression_laws.proofs.Calls.{flat_has}
-use Rattle.local_form.specs.LocalForm.{unmarked}
 
 -- ---- parameters
 
@@ -192,7 +191,7 @@ module _ (tree : Tree) (t : TaskTree) (h : IsToldNone tree t) (tops : Tops) wher
   begun k i = ⊎_elim (params_tell params up ks (scope_of tree t).names k) (λ c. clauses_tell t.clauses h.sound_task.clauses k c i)
       (Has-append_cases (known_of_params (scope_of tree t).names) (known_of_clauses t.params t.clauses) k i)
 
-  opening_head : KnowsFacts unmarked tree t (scope_of tree t)
+  opening_head : KnowsFacts tree t (scope_of tree t)
   opening_head = head_begins tree t h.sound_task (parts_tell tree t h.scope.numbers)
 
   pub begins_kept : ((i : ℕ) (k : ℕ × ℕ) → up i ≡ Some k → k.1 ≤ i) → Kept (task_code tree t) tops t tree params (scope_of tree t)
@@ -203,7 +202,7 @@ module _ (tree : Tree) (t : TaskTree) (h : IsToldNone tree t) (tops : Tops) wher
     many = refl;
     known = begun;
     begins = λ i p c a. ⊎_elim (λ (q : IsPair tree t (term.Name i) (term.Child p c)). absurd (subst IsNameTerm (sym q.is_upper) tt))
-        (λ (q : IsPiece unmarked t (scope_of tree t) (term.Name i) (term.Child p c)). let high = q.high in let low = q.low in absurd (omega (arith, high, low)))
+        (λ (q : IsPiece t (scope_of tree t) (term.Name i) (term.Child p c)). let high = q.high in let low = q.low in absurd (omega (arith, high, low)))
         (opening_head.within (term.Name i) (term.Child p c) (Contains-from_Has (scope_of tree t).known _ a));
     said = λ b a. params_said params (scope_of tree t).known tree t.params 0 t.params (omega arith) b a;
     falls = falls;

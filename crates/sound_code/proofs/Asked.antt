@@ -1,41 +1,31 @@
 -- What is asked of a place of a body: what is known of the program's tasks, and that the mark is ready there.
-use Rattle.std.proofs.Common.{◌≡◌, ℕ, ◌<◌, ◌≤◌, ◌-◌, true, false, refl, sym, ◌∙◌, [], ◌++◌, map, None, Option, Some, List, subst}
-use Rattle.std.specs.Prelude.{length, replicate, slice_get}
+use Rattle.std.proofs.Common.{◌≡◌, ℕ, ◌<◌, ◌≤◌, true, false, refl, sym, ◌∙◌, None, Option, Some, List, subst}
+use Rattle.std.specs.Prelude.{length, slice_get}
 use Rattle.regent_tree.specs.Scopes.{past, Scope, scope_of}
 use Rattle.regent_tree.specs.StaticTypes.{field_term}
 use Rattle.regent_tree.specs.Syntax.{TaskTree, Tree}
 use Rattle.value_laws.specs.Shapes.{regions_listed}
-use Rattle.regent_tree.specs.Typing.{param_types, result_type, scope_after_block}
+use Rattle.regent_tree.specs.Typing.{result_type, scope_after_block}
 use Rattle.regent_tree.proofs.Members.{Has, Has-append_left}
 use Rattle.regent_tree.specs.declared.facts.Known.{Known as RegionFact}
 use Rattle.regent_tree.specs.declared.typing.Bound.{Bound}
 use Rattle.task_code.specs.declared.code.TaskCode.{TaskCode}
 use Rattle.code_rules.specs.Instructions.{tasks_of}
-use Rattle.code_rules.specs.Programs.{code_of, task_code}
+use Rattle.code_rules.specs.Programs.{code_of}
 use Rattle.code_rules.specs.Slots.{Where}
 use Rattle.code_laws.proofs.Told.{all_told, Grows, told_before, ToldUpTo}
 use Rattle.code_laws.specs.Handing.{told_in}
 use Rattle.code_laws.specs.Steps.{Forms, Taking}
 use Rattle.std.proofs.lemmas.Bool.{false≢true}
 use Rattle.code_laws.specs.Taking.{BeginsWhole, BeginsWithin, LiesUp, pairs_in}
-use Rattle.fit_rules.specs.Shapes.{anything}
-use Rattle.fit_rules.specs.Marks.{Mark}
+use Rattle.fit_rules.specs.Marks.{Into, Mark}
 use Rattle.fit_rules.specs.Fits.{Program}
+use Rattle.sound_code.specs.Marks.{opening_mark}
 use Rattle.sound_code.specs.Named.{AreNamed, HavePartsBeside, Ready, ReadyAt}
-use Rattle.sound_code.specs.Ways.{Tops, Way, all_made, by_rules, opening_facts, shape_in, shape_of}
+use Rattle.sound_code.specs.Ways.{Tops, Way, all_made, by_rules, shape_of}
 use Rattle.sound_code.proofs.Grounds.{BeginsUnder, BeginsWholly, Ground, HasFacts, Kept, top_in}
 use Rattle.sound_code.proofs.Cuts.{Cut}
 use Rattle.sound_code.proofs.Scoped.{AreScoped, IsByRules, is_by_rules, Scoped}
-
--- The mark in which a task's body begins: of the slots behind those of the parameters nothing is known.
-abbrev pub opening_mark : Way → Tree → TaskTree → Mark
-opening_mark way tree t = record {
-  slots = map (shape_in way (length t.params)) (param_types tree t) ++ replicate ((task_code tree t).slots - length t.params) anything;
-  facts = opening_facts way tree t;
-  stack = [];
-  top = [];
-  fixed = length t.params;
-}
 
 -- another task is looked at in the same way
 abbrev pub other : Way → TaskTree → Way
@@ -48,7 +38,8 @@ pub record Known (way : Way) (g : Program) (tree : Tree) : Type 0 where
   pub positions : (sp f : ℕ) → g.positions sp f ≡ regions_listed (field_term tree sp f)
   pub results : (k : ℕ) (u : TaskTree) → slice_get (tasks_of tree) k ≡ Some u →
       g.results k ≡ shape_of (result_type tree u.result)
-  pub begins : (k : ℕ) (u : TaskTree) → slice_get (tasks_of tree) k ≡ Some u → g.marks k 0 ≡ opening_mark (other way u) tree u
+  pub begins : (k : ℕ) (u : TaskTree) → slice_get (tasks_of tree) k ≡ Some u → g.begins k ≡ opening_mark (other way u) tree u
+  pub first : (k : ℕ) (u : TaskTree) → slice_get (tasks_of tree) k ≡ Some u → Into (length u.params) (g.begins k) (g.marks k 0)
 
 -- which regions of a task began as parts, as is read from its text
 pub record AreTops (y : Taking) (params : ℕ) (up : ℕ → Option (ℕ × ℕ)) : Type 0 where

@@ -1,5 +1,5 @@
 -- The code of blocks has marks.
-use Rattle.std.proofs.Common.{◌≡◌, inr, ⊎_elim, ℕ, ◌<◌, [], ◌∷◌, true, ◌&&◌, Some, None, refl, sym, ap, ◌∙◌, subst, arith, suc}
+use Rattle.std.proofs.Common.{inl, inr, ⊎_elim, ℕ, ◌<◌, [], ◌∷◌, true, ◌&&◌, Some, None, refl, sym, ap, ◌∙◌, subst, arith, suc}
 use Rattle.std.specs.Prelude.{length}
 use Rattle.regent_tree.specs.declared.statement.How.TheVariants as how
 use Rattle.regent_tree.specs.declared.typing.Bound.{Bound}
@@ -24,7 +24,7 @@ use Rattle.fit_rules.specs.Shapes.{index}
 use Rattle.marked_code.specs.Marked.{leads_nowhere, typed_op}
 use Rattle.code_laws.proofs.Wider.{any_field, assigned, counting, zeroed}
 use Rattle.sound_code.specs.Named.{HasPartBeside, HasSlots, loops_in}
-use Rattle.regent_tree.specs.Scopes.{past, Scope}
+use Rattle.regent_tree.specs.Scopes.{past}
 use Rattle.regent_tree.specs.Typing.{scope_after_arms}
 use Rattle.regent_tree.specs.declared.rights.Access.TheVariants as access
 use Rattle.check_rules.specs.types.Parts.{tests_of}
@@ -49,7 +49,7 @@ use Rattle.sound_code.proofs.Taken.{looped_parts, taken_scoped}
 use Rattle.sound_code.proofs.Besides.{written_no_child}
 use Rattle.sound_code.proofs.Numbering.{numbered_more}
 use Rattle.sound_code.proofs.Behind.{BeginsSo, after_arms_ground, after_block_ground, after_form_ground, counted_simple}
-use Rattle.sound_code.proofs.Grounds.{Ground, facts_more, facts_among}
+use Rattle.sound_code.proofs.Grounds.{facts_more, facts_among}
 use Rattle.sound_code.proofs.Grown.{ground_block, ground_looping}
 use Rattle.sound_code.proofs.Steady.{steady_below}
 use Rattle.sound_code.proofs.Told.{ToldAll, ToldBlock, ToldForm, ToldList, told_arms, told_call_form, told_first, told_head, told_heads, told_listed, told_statement}
@@ -68,6 +68,7 @@ use Rattle.sound_code.proofs.Narrowing.{narrow_itself, narrow_then, narrow_long,
 use Rattle.sound_code.proofs.Prints.{print_marked}
 use Rattle.sound_code.proofs.Rounds.{domain_there, long_round, round_narrow, round_ready}
 use Rattle.sound_code.proofs.PointLoops as points
+use Rattle.sound_code.proofs.Stops.{asked_in, FollowedBlock, joined, more_then, on_the_line, stops_both}
 use Rattle.sound_code.proofs.Statements.{begin_marked, Followed, new_name, unchanged, value_marked, bind_marked, assign_marked, return_marked, assert_marked, call_marked, closed_block, while_marked, branch_marked}
 use Rattle.sound_code.proofs.Looping.{may_store}
 
@@ -82,40 +83,6 @@ module _ (g : Program) (t : TaskCode) (k slots : ℕ) (have : HasSlots t slots) 
     λ i b. begins_wholly forms t way w.tree i a.hands b,
     λ keeps i r b l. begins_under forms t way w.tree w.params i r a.params keeps a.hands b l,
   )
-
-  on_the_line : (w : Where) (m : Mark) (line : ℕ) → At w m → At (on_line w line) m
-  on_the_line w m line a = record {
-    hands = a.hands;
-    ready = a.ready;
-    params = a.params;
-    result = a.result;
-    room = a.room;
-    known = a.known;
-    ground = a.ground;
-    facts = a.facts;
-    ruled = a.ruled;
-    scoped = a.scoped;
-    cut = a.cut;
-    upto = a.upto;
-  }
-
-  -- in a scope of the same names where no less is known
-  asked_in : (w : Where) (m : Mark) (s : Scope) → s.names ≡ w.scope.names → Ground t way w.tree w.params s → UpTo way w.tree s → At w m →
-      At (record w { scope = s }) m
-  asked_in w m s e h up a = record {
-    hands = a.hands;
-    ready = same_names way w.params _ _ m (sym e) a.ready;
-    params = a.params;
-    result = a.result;
-    room = a.room;
-    known = a.known;
-    ground = h;
-    facts = a.facts;
-    ruled = a.ruled;
-    scoped = subst (Scoped forms.keeps way) (sym e) a.scoped;
-    cut = cut_same forms.keeps way w.tree w.params m.facts _ _ (sym e) a.cut;
-    upto = up;
-  }
 
   mutual
     pub form_marked : (w : Where) (m : Mark) (form : Form) → IsTypedForm forms w form → Asks forms.keeps (is_whole_form true w form) → At w m → ToldForm way w.tree w.scope form →
@@ -152,20 +119,21 @@ module _ (g : Program) (t : TaskCode) (k slots : ℕ) (have : HasSlots t slots) 
       is = arms_marked w w m arms (else_code (after_arms w arms) other) f.0 (asks_first _ _ _ whole) a a (told_heads w.tree w.scope way (if_form arms other) told)
           (parts_told w.tree way w.scope arms other within).0 (upto_before way w.tree _ _ (else_grows w.tree (scope_after_arms w.tree w.scope arms) other) up) pc st
           (λ q s. else_marked (after_arms w arms) m other f.1 (asks_second _ _ _ whole)
-          (asked_in w m (scope_after_arms w.tree w.scope arms) (arms_names w.tree w.scope arms)
+          (asked_in g t k slots forms way w m (scope_after_arms w.tree w.scope arms) (arms_names w.tree w.scope arms)
           (after_arms_ground forms t way w w arms f.0 (asks_first _ _ _ whole) (beginning_at w m a) a.ground)
           (upto_before way w.tree _ _ (else_grows w.tree (scope_after_arms w.tree w.scope arms) other) up) a) (parts_told w.tree way w.scope arms other within).1 up q s);
       ready = same_names way w.params _ _ m
           (sym (else_names w.tree (after_arms w arms).scope other ∙ arms_names w.tree w.scope arms)) a.ready;
       narrower = narrow_itself m.slots;
       facts = λ l h. h;
+      new = λ l h. inl h;
       cut = cut_same forms.keeps way w.tree w.params m.facts _ _ (sym (else_names w.tree (after_arms w arms).scope other ∙ arms_names w.tree w.scope arms)) a.cut;
       scoped = subst (Scoped forms.keeps way) (sym (else_names w.tree (after_arms w arms).scope other ∙ arms_names w.tree w.scope arms)) a.scoped;
     }
     form_marked w m (while_form test body) f whole a told within up pc st = unchanged g t k forms.keeps way w.tree _ _ m _ a.ready a.scoped a.cut
         (while_marked g t k slots have forms way w m a test (block_code w body) f.0 f.1 (asks_first _ _ _ whole)
         (told_head w.tree w.scope way (while_form test body) test refl told) _ st.3
-        (closed_block g t k forms.keeps way w.tree _ _ m _ (block_marked w m body f.2 (asks_second _ _ _ whole) a within (upto_inner way w.tree w.scope _ up) _ st.2)))
+        (closed_block g t k forms.keeps way w.tree _ _ m _ (block_marked w m body f.2 (asks_second _ _ _ whole) a within (upto_inner way w.tree w.scope _ up) _ st.2).done))
     form_marked w m (for_to_form demanded x from to body) f whole a told within up pc st =
         let u = typed w from in
         let v = typed w to in
@@ -205,13 +173,13 @@ module _ (g : Program) (t : TaskCode) (k slots : ℕ) (have : HasSlots t slots) 
         }) within end _ st.1.1.1.1.1 in
         let first = told_first w.tree w.scope way from (to ∷ []) (told_heads w.tree w.scope way (for_to_form demanded x from to body) told) in
         let second = told_first w.tree w.scope way to [] first.1 in
-        let narrow = narrow_then _ _ _ inner.narrower (round_narrow way w.params bs m a.ready i i i m.facts hi) in
+        let narrow = narrow_then _ _ _ inner.done.narrower (round_narrow way w.params bs m a.ready i i i m.facts hi) in
         unchanged g t k forms.keeps way w.tree _ _ m _ a.ready a.scoped a.cut
         (both g t k (value_marked g t k slots have forms way w m a from [] f.2 (asks_first _ _ _ whole) first.0 pc st.0)
         (both g t k (value_marked g t k slots have forms way w m a to (shape_of u ∷ []) f.3 (asks_first _ _ _ rest) second.0 _ st.1.0)
         (numbers.counted g t k way w.params bs m a.ready a.params wd.width hi (shape_of u) (shape_of v) w.line
         (block_code lw body) wd.left wd.right
-        (into g t k inner.is (narrow_into t.params inner.next hm narrow (fewer_facts m.facts inner.next.facts inner.facts)) (sym (narrow_long _ _ narrow))))))
+        (into g t k inner.done.is (narrow_into t.params inner.done.next hm narrow (fewer_facts m.facts inner.done.next.facts inner.done.facts)) (sym (narrow_long _ _ narrow))))))
     form_marked w m (for_in_form demanded x domain body) looped whole a told within up pc st =
         let u = typed w domain in
         let f = looped_parts forms.keeps w domain _ _ _ looped in
@@ -250,14 +218,14 @@ module _ (g : Program) (t : TaskCode) (k slots : ℕ) (have : HasSlots t slots) 
               (worth_no_partition _ tk.worth);
           upto = upto_before way w.tree _ _ (block_grows w.tree lw.scope body) end;
         }) within end _ st.1.1.1.1.1 in
-        let narrow = narrow_then _ _ _ inner.narrower (round_narrow way w.params bs m a.ready tk.D index tk.V fs hi) in
+        let narrow = narrow_then _ _ _ inner.done.narrower (round_narrow way w.params bs m a.ready tk.D index tk.V fs hi) in
         unchanged g t k forms.keeps way w.tree _ _ m _ a.ready a.scoped a.cut
         (both g t k over.is
         (subst (λ p. Marked g t k (stacked m (tk.D ∷ [])) (over_points w x u body p) (stacked m [])) (sym tk.is_ptr)
         (points.counted g t k way w.params bs m a.ready a.params hi tk.D tk.V tk.ptr tk.domain w.line (block_code lw body)
-        (into g t k inner.is (narrow_into t.params inner.next hm narrow (fewer_facts fs inner.next.facts inner.facts)) (sym (narrow_long _ _ narrow))))))
+        (into g t k inner.done.is (narrow_into t.params inner.done.next hm narrow (fewer_facts fs inner.done.next.facts inner.done.facts)) (sym (narrow_long _ _ narrow))))))
     form_marked w m (do_form body) f whole a told within up pc st = unchanged g t k forms.keeps way w.tree _ _ m _ a.ready a.scoped a.cut
-        (closed_block g t k forms.keeps way w.tree _ _ m _ (block_marked w m body f whole a within (upto_inner way w.tree w.scope _ up) pc st))
+        (closed_block g t k forms.keeps way w.tree _ _ m _ (block_marked w m body f whole a within (upto_inner way w.tree w.scope _ up) pc st).done)
     form_marked w m (fill_form r fields e) f whole a told within up pc st = fill_marked g t k slots have forms way w m a r fields e f.0 whole told f.1 f.2 f.3 pc st
     form_marked w m (call_form task args) f whole a told within up pc st = call_marked g t k slots have forms way w m a task args f.1 f.2 whole (told_call_form w.tree w.scope way task args told)
         (told_listed w.tree w.scope way args (told_heads w.tree w.scope way (call_form task args) told)) pc st
@@ -354,9 +322,9 @@ module _ (g : Program) (t : TaskCode) (k slots : ℕ) (have : HasSlots t slots) 
         let inner = scope_after_block w.tree w.scope body in
         let behind = upto_before way w.tree (past w.scope inner) _ (arms_grow w.tree (past w.scope inner) rest) up in
         branch_marked g t k slots have forms way own m o w.line test (block_code w body) (arms_code own (after_arm w body) rest other) f.0 f.1 (asks_first _ _ _ whole) first.0 pc st.0
-        (closed_block g t k forms.keeps way w.tree _ _ m _ (block_marked w m body f.2 (asks_first _ _ _ later) a parts.0 (upto_inner way w.tree w.scope inner behind) _ st.1.1))
+        (closed_block g t k forms.keeps way w.tree _ _ m _ (block_marked w m body f.2 (asks_first _ _ _ later) a parts.0 (upto_inner way w.tree w.scope inner behind) _ st.1.1).done)
         (arms_marked own (after_arm w body) m rest other f.3 (asks_second _ _ _ later) o
-        (asked_in w m (past w.scope inner) refl
+        (asked_in g t k slots forms way w m (past w.scope inner) refl
         (ground_block t w.tree w.params way w.scope body a.ground (after_block_ground forms t way w body f.2 (asks_first _ _ _ later) (beginning_at w m a) a.ground)) behind a)
         first.1 parts.1 up _ st.1.3 more)
 
@@ -365,15 +333,18 @@ module _ (g : Program) (t : TaskCode) (k slots : ℕ) (have : HasSlots t slots) 
         Stands t.body pc (else_code w other) → Marked g t k (stacked m []) (else_code w other) (stacked m [])
     else_marked w m no_else f whole a within up pc st = nothing_done g t k _
     else_marked w m (else_block body) f whole a within up pc st =
-        closed_block g t k forms.keeps way w.tree _ _ m _ (block_marked w m body f whole a within (upto_inner way w.tree w.scope _ up) pc st)
+        closed_block g t k forms.keeps way w.tree _ _ m _ (block_marked w m body f whole a within (upto_inner way w.tree w.scope _ up) pc st).done
 
     pub block_marked : (w : Where) (m : Mark) (b : Block) → IsTypedBlock forms w b → Asks forms.keeps (is_whole_block true w b) → At w m → ToldBlock way w.tree w.scope b → UpTo way w.tree (scope_after_block w.tree w.scope b) → (pc : ℕ) →
-        Stands t.body pc (block_code w b) → Followed g t k forms.keeps way w.tree w.params (scope_after_block w.tree w.scope b).names m (block_code w b)
-    block_marked w m no_statement f whole a told up pc st = unchanged g t k forms.keeps way w.tree _ _ m _ a.ready a.scoped a.cut (nothing_done g t k _)
+        Stands t.body pc (block_code w b) → FollowedBlock g t k forms.keeps way w.tree w.params (scope_after_block w.tree w.scope b).names m w b pc
+    block_marked w m no_statement f whole a told up pc st = record {
+      done = unchanged g t k forms.keeps way w.tree _ _ m _ a.ready a.scoped a.cut (nothing_done g t k _);
+      stops = λ d v q h. absurd h;
+    }
     block_marked w m (then_statement (a_statement line form) rest) f whole a told up pc st =
         let parts = told_statement w.tree way w.scope line form rest told in
         let behind = upto_before way w.tree _ _ (block_grows w.tree (scope_after w.tree w.scope form) rest) up in
-        let one = form_marked (on_line w line) m form f.0 (asks_first _ _ _ whole) (on_the_line w m line a) parts.0 parts.1 behind pc st.0 in
+        let one = form_marked (on_line w line) m form f.0 (asks_first _ _ _ whole) (on_the_line g t k slots forms way w m line a) parts.0 parts.1 behind pc st.0 in
         let two = block_marked (after_form w form) one.next rest f.1 (asks_second _ _ _ whole)
         (record {
           hands = a.hands;
@@ -390,11 +361,15 @@ module _ (g : Program) (t : TaskCode) (k slots : ℕ) (have : HasSlots t slots) 
           upto = behind;
         }) parts.2 up _ st.1 in
         record {
-          next = two.next;
-          is = both g t k one.is two.is;
-          ready = two.ready;
-          narrower = narrow_then _ _ _ two.narrower one.narrower;
-          facts = λ l h. two.facts l (one.facts l h);
-          scoped = two.scoped;
-          cut = two.cut;
+          done = record {
+            next = two.done.next;
+            is = joined g t k way w.tree w.params one.is two.done.is;
+            ready = two.done.ready;
+            narrower = narrow_then _ _ _ two.done.narrower one.narrower;
+            facts = λ l h. two.done.facts l (one.facts l h);
+            new = more_then w.params m.facts one.next.facts two.done.next.facts one.new two.done.new;
+            scoped = two.done.scoped;
+            cut = two.done.cut;
+          };
+          stops = stops_both g t k way w.tree w.params w line form rest pc m one.next two.done.next a.ready a.facts one.new one.is two.done.is two.stops;
         }

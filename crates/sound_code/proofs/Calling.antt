@@ -44,7 +44,8 @@ use Rattle.regent_tree.specs.declared.facts.Known.{Known as RegionKnown}
 use Rattle.regent_tree.specs.declared.facts.Known.TheVariants.{Within, Apart, PartOf}
 use Rattle.regent_tree.specs.declared.facts.Term.TheVariants.{Name as TermName}
 use Rattle.sound_code.proofs.WholeTasks.{are_whole_arguments}
-use Rattle.sound_code.proofs.Asked.{opening_mark, other, Known}
+use Rattle.sound_code.specs.Marks.{opening_mark}
+use Rattle.sound_code.proofs.Asked.{other, Known}
 use Rattle.sound_code.proofs.Wholes.{Asks, asks_first, asks_second, given_whole, IsWorth, worth_named, worth_pointer, worth_simple}
 
 pub scalar_numeric : (t : StaticType) → IsScalar t → Numeric (shape_of t)
@@ -143,13 +144,27 @@ opening_kept way tree t ws us long h = steady_holds (length t.params) (length t.
     let same = get_front ws us (slot_at (length t.params) i) (omega (arith, l, long)) in (ap region_in same, ap partition_in same)) (λ b h. absurd h)
     (opening_facts way tree t) (opening_steady way tree t) h
 
+-- and back, by the slots in which the arguments stand
+pub facts_kept : (way : Way) (tree : Tree) (t : TaskTree) (ws us : List Value) → length ws ≡ length t.params →
+    Each (λ k. Holds k (ws ++ us)) (opening_facts way tree t) → Each (λ k. Holds k ws) (opening_facts way tree t)
+facts_kept way tree t ws us long h = steady_holds (length t.params) (length t.params) (omega arith) [] (ws ++ us) ws
+    (λ p lo hi. absurd (omega (arith, lo, hi)))
+    (λ i l.
+    let same = sym (get_front ws us (slot_at (length t.params) i) (omega (arith, l, long))) in (ap region_in same, ap partition_in same)) (λ b h. absurd h)
+    (opening_facts way tree t) (opening_steady way tree t) h
+
+-- arguments of the parameters' shapes are as many as these
+pub args_many : (way : Way) (tree : Tree) (t : TaskTree) (x : World) (ws : List Value) →
+    Are x (map (shape_in way (length t.params)) (param_types tree t)) ws → length ws ≡ length t.params
+args_many way tree t x ws a = as_long x _ ws a ∙ length-map (param_types tree t) (shape_in way (length t.params)) ∙ types_many tree t
+
 -- what a frame has that opens with arguments of the parameters' shapes suits the mark
 pub opening_suits : (way : Way) (tree : Tree) (t : TaskTree) (x : World) (ws : List Value) →
     Are (called x ws) (map (shape_in way (length t.params)) (param_types tree t)) ws → Each (λ k. Holds k ws) (opening_facts way tree t) →
     Suits (called x ws) (length t.params) (opening_mark way tree t)
     (ws ++ replicate ((task_code tree t).slots - length ws) (Number (pos 0))) []
 opening_suits way tree t x ws a told =
-    let long : length ws ≡ length t.params = as_long (called x ws) _ ws a ∙ length-map (param_types tree t) (shape_in way (length t.params)) ∙ types_many tree t in
+    let long = args_many way tree t (called x ws) ws a in
     let same : (task_code tree t).slots - length t.params ≡ (task_code tree t).slots - length ws = omega (arith, long) in
     subst (λ n. Suits (called x ws) (length t.params) (opening_mark way tree t) (ws ++ replicate n (Number (pos 0))) [])
     same
@@ -265,13 +280,18 @@ worths_told way tree t x ts ws h a = each (opening_facts way tree t) (opening_st
 module _ (g : Program) (t : TaskCode) (k : ℕ) (way : Way) (w : Where) (known : Known way g w.tree) where
   pub opens : (m : Mark) (task : ℕ) (u : TaskTree) → slice_get (tasks_of w.tree) task ≡ Some u → (task_code w.tree u).needs ≡ [] →
       Each IsWorth (param_types w.tree u) → Opens g t m task (task_code w.tree u) (map shape_of (param_types w.tree u))
-  opens m task u there none worth x vs st ws knows s a = (
-    subst (λ y. Suits (called x ws) (length u.params) y (ws ++ replicate ((task_code w.tree u).slots - length ws) (Number (pos 0))) [])
-        (sym (known.begins task u there))
-        (opening_suits (other way u) w.tree u x ws
-        (subst (λ y. Are (called x ws) y ws) (sym (worths_named (other way u) (length u.params) (param_types w.tree u) worth))
-        (worths_are (around x m vs) (called x ws) (param_types w.tree u) ws worth a))
-        (worths_told (other way u) w.tree u (around x m vs) (param_types w.tree u) ws worth a)),
-    subst (λ ns. Each (IsNeeded g x ws) ns) (sym none) tt,
-    subst (λ ns. IsWithin (declared_claims ns ws) (claims g x t)) (sym none) (λ root field point. inl refl),
+  opens m task u there none worth = (
+    known.first task u there,
+    λ x vs st ws knows s a.
+        let are = subst (λ y. Are (called x ws) y ws) (sym (worths_named (other way u) (length u.params) (param_types w.tree u) worth))
+        (worths_are (around x m vs) (called x ws) (param_types w.tree u) ws worth a) in (
+          (
+            args_many (other way u) w.tree u (called x ws) ws are,
+            subst (λ y. Suits (called x ws) (length u.params) y (ws ++ replicate ((task_code w.tree u).slots - length ws) (Number (pos 0))) [])
+                (sym (known.begins task u there))
+                (opening_suits (other way u) w.tree u x ws are (worths_told (other way u) w.tree u (around x m vs) (param_types w.tree u) ws worth a)),
+          ),
+          subst (λ ns. Each (IsNeeded g x ws) ns) (sym none) tt,
+          subst (λ ns. IsWithin (declared_claims ns ws) (claims g x t)) (sym none) (λ root field point. inl refl),
+        ),
   )

@@ -9,7 +9,7 @@ use Rattle.regent_tree.specs.Lookup.{is_bound}
 use Rattle.regent_tree.specs.StaticTypes.{Reach}
 use Rattle.regent_tree.specs.Syntax.{access_expr, at_step, cast_expr, Expression, field_step, Name, no_step, null_expr, plain_initializer, var_form}
 use Rattle.regent_tree.specs.Scopes.{bound_as}
-use Rattle.regent_tree.specs.Typing.{owned, parent_of, reaches_of, type_of_element}
+use Rattle.regent_tree.specs.Typing.{owned, parent_of, reaches_of, taken_from, type_of_element}
 use Rattle.regent_tree.specs.declared.facts.Term.TheVariants as term
 use Rattle.regent_tree.specs.declared.typing.Bound.{Bound}
 use Rattle.regent_tree.specs.declared.typing.StaticType.{StaticType}
@@ -17,14 +17,16 @@ use Rattle.regent_tree.specs.declared.typing.StaticType.TheVariants.{Pointer as 
 use Rattle.task_code.specs.declared.code.TaskCode.{TaskCode}
 use Rattle.task_code.specs.declared.instr.Instr.TheVariants as instr
 use Rattle.code_rules.specs.Initializers.{names_child, plain_code}
+use Rattle.code_rules.specs.Expressions.{expr_code}
 use Rattle.code_rules.specs.Pieces.{◌⨟◌, op}
-use Rattle.code_rules.specs.Slots.{beside, bound, slot_named, typed, Where}
+use Rattle.code_rules.specs.Slots.{beside, bound, slot_named, spare, typed, Where}
 use Rattle.code_rules.specs.Statements.{after_form, form_code}
 use Rattle.code_laws.specs.Pointers.{a_pointer_type, AreThere, IsPointer}
-use Rattle.code_laws.specs.Simple.{IsSimple, simple_index, simple_integer, simple_space, simple_truth}
+use Rattle.code_laws.specs.Simple.{a_region_type, IsRegion, IsSimple, simple_index, simple_integer, simple_space, simple_truth}
 use Rattle.code_laws.specs.Standing.{Stands}
 use Rattle.code_laws.specs.Steps.{Forms}
-use Rattle.code_laws.specs.Typed.{element_field, field_behind, IsKeepable, IsPointing, IsTyped}
+use Rattle.code_laws.specs.Typed.{element_field, field_behind, IsKeepable, IsPartElement, IsPointing, IsTyped}
+use Rattle.code_laws.proofs.PartTypes.{a_part_pointer, IsPartPointer, part_pointer}
 use Rattle.code_laws.proofs.Wider.{keepable}
 use Rattle.fit_rules.specs.Shapes.{Is, numeric_pointer, part, pointer, region, Shape}
 use Rattle.fit_rules.specs.Marks.{Mark, stacked}
@@ -38,18 +40,21 @@ use Rattle.sound_code.specs.Ways.{origin_in, shape_in, shape_of, Way}
 use Rattle.sound_code.proofs.Asked.{Asked}
 use Rattle.sound_code.proofs.Besides.{NamesNoChild, part_named, parts_behind}
 use Rattle.sound_code.proofs.Bindings.{plain_stands}
-use Rattle.sound_code.proofs.Combining.{behind_kept, both, does, nothing_done, slot_high, slot_next, storing, fixed_to, fixing}
+use Rattle.sound_code.proofs.Combining.{behind_kept, both, does, Marked, nothing_done, slot_high, slot_next, storing, fixed_to, fixing}
 use Rattle.sound_code.proofs.Cuts.{Cut, cut_plain}
+use Rattle.sound_code.proofs.Domains.{parent_numbered, part_beside, part_shape}
 use Rattle.sound_code.proofs.Expressions.{stored}
 use Rattle.sound_code.proofs.Narrowing.{named_behind, narrow_itself, narrow_set}
 use Rattle.sound_code.proofs.NoCuts.{IsNoCut, worth_no_partition}
 use Rattle.sound_code.proofs.Numbering.{each_numbered, numbered_at, numbered_more, numbered_set}
+use Rattle.sound_code.proofs.PartElements.{put_room}
+use Rattle.sound_code.proofs.PartTargets.{part_left}
 use Rattle.sound_code.proofs.Placing.{named_at}
 use Rattle.sound_code.proofs.Scoped.{Scoped}
 use Rattle.sound_code.proofs.ScopedNames.{begun_scoped, region_there, scoped_bound}
 use Rattle.sound_code.proofs.Statements.{bind_marked, Followed, new_name, plain_marked, value_marked}
 use Rattle.sound_code.proofs.Steady.{steady_below}
-use Rattle.sound_code.proofs.Told.{ToldForm, told_heads, told_plain}
+use Rattle.sound_code.proofs.Told.{Told, ToldForm, told_heads, told_plain}
 use Rattle.sound_code.proofs.Wholes.{Asks, asks_first, asks_second, begun_worth, IsWorth, kept_of, owned_same, worth_named, worth_numbered}
 use Rattle.sound_code.proofs.Looping.{loop_more}
 
@@ -95,8 +100,10 @@ module _ (forms : Forms) (w : Where) where
       absurd (there (typed w (access_expr n (at_step e (at_step i (field_step a rest))))) h c)
   pointing_copy _ p h f c = absurd h
 
-  begun_copy : (b : Bool) (e : Expression) → IsKeepable b w e → IsTyped forms w e → names_child (reaches_of (typed w e)) ≡ true → IsCopy w e
-  begun_copy b e h f c = ⊎_elim (λ s. absurd (simple_no_child (typed w e) s c)) (λ p. pointing_copy e p.0 p.1 f c) (keepable b w e h)
+  -- or an element of a part
+  begun_copy : (b : Bool) (e : Expression) → IsKeepable b w e → IsTyped forms w e → names_child (reaches_of (typed w e)) ≡ true → IsCopy w e ⊎ IsPartElement e
+  begun_copy b e h f c = ⊎_elim (λ s. absurd (simple_no_child (typed w e) s c))
+      (λ p. ⊎_elim (λ q. inl (pointing_copy e p.0 q f c)) (λ q. inr q) p.1) (keepable b w e h)
 
 -- ---- a name with a part beside it
 
@@ -172,6 +179,7 @@ module _ (g : Program) (t : TaskCode) (k slots : ℕ) (have : HasSlots t slots) 
         narrower = narrow_set (slice_set m.slots be D) m.slots va _ (narrow_set m.slots m.slots be D (narrow_itself m.slots) (inl (r.free be (omega arith) hi)))
             (inl (r.free va (omega arith) (omega (arith, hi))));
         facts = λ l a. a;
+        new = λ l a. inl a;
         scoped = scoped;
         cut = cut;
       }
@@ -187,6 +195,62 @@ module _ (g : Program) (t : TaskCode) (k slots : ℕ) (have : HasSlots t slots) 
   copied_marked x _ (is_copy y falls goes there) child worth scoped cut pc st = copy_marked x y (bound w y).static_type goes child
       (named_at way w.params m.slots w.scope.names y asked.ready.named there ∙ ap Some (worth_named way w.params _ worth))
       (part_named way w.params m.slots w.scope.next w.scope.names y falls asked.ready.beside there) scoped cut pc st.0
+
+  -- a pointer into a part, which was put aside where it stands beside the new name
+  put_marked : (x n : Name) (e i : Expression) (u : StaticType) (own sq : ℕ) → IsPartPointer u own sq → slot_at w.params (length w.scope.names) + 2 < length m.slots →
+      (D : Shape) → IsNumbered w.scope.names D →
+      ((ss : List Shape) → slice_get ss (slot_at w.params (length w.scope.names) + 2) ≡ Some D → HasPartBeside way w.params ss w.scope.names (length w.scope.names) u) →
+      Marked g t k (stacked m []) (expr_code w 0 (access_expr n (at_step e (at_step i no_step))))
+      (stacked (set_mark m (slot_at w.params (length w.scope.names) + 2) D []) (shape_of u ∷ [])) →
+      Scoped forms.keeps way (Named x (owned w.scope.next u) ∷ w.scope.names) →
+      Cut forms.keeps way w.tree w.params m.facts (Named x (owned w.scope.next u) ∷ w.scope.names) →
+      Followed g t k forms.keeps way w.tree w.params (Named x (owned w.scope.next u) ∷ w.scope.names) m
+      (plain_code w (owned w.scope.next u) (access_expr n (at_step e (at_step i no_step))) ⨟ op (instr.Store (slot_at w.params (length w.scope.names))) w.line)
+  put_marked x n e i _ _ _ (a_part_pointer c sp args own colour) hi D number stood f scoped cut =
+      let r = asked.ready in
+      let bs = w.scope.names in
+      let va = slot_at w.params (length bs) in
+      let be = va + 2 in
+      let u = pointer_type c sp args (Some (term.Child own colour) ∷ []) in
+      let V = shape_of u in
+      let high = slot_high w.params (length bs) r.low in
+      let first = set_mark m be D [] in record {
+        next = fixed_to (slot_at w.params (suc (length bs))) (set_mark first va V []);
+        is = fixing g t k _ (set_mark first va V []) _ _ (both g t k (both g t k f (nothing_done g t k _))
+            (storing g t k first va V V [] w.line (behind_kept way w.params bs m va r (omega arith)) (omega (arith, high, asked.params))
+            (omega (arith, r.fixed)) tt (omega (arith, hi, length-set m.slots be D)) (λ z v i. i)));
+        ready = named_part way w.params bs m (Named x u) D V r hi refl refl (numbered_more bs (Named x u) D number) tt stood;
+        narrower = narrow_set (slice_set m.slots be D) m.slots va _ (narrow_set m.slots m.slots be D (narrow_itself m.slots) (inl (r.free be (omega arith) hi)))
+            (inl (r.free va (omega arith) (omega (arith, hi))));
+        facts = λ l a. a;
+        new = λ l a. inl a;
+        scoped = scoped;
+        cut = cut;
+      }
+
+  -- a pointer into a region is what a loop over it takes
+  element_taken : (t : StaticType) (i : Expression) → IsRegion t → taken_from t ≡ type_of_element w.scope t i
+  element_taken _ i (a_region_type c sp args r) = refl
+
+  element_marked : (x : Name) (y : Expression) → IsPartElement y → IsTyped forms w y → Asks forms.keeps (is_whole_expression true w y) → Told way w.tree w.scope y →
+      Scoped forms.keeps way (Named x (owned w.scope.next (typed w y)) ∷ w.scope.names) →
+      Cut forms.keeps way w.tree w.params m.facts (Named x (owned w.scope.next (typed w y)) ∷ w.scope.names) → (pc : ℕ) →
+      Stands t.body pc (expr_code w 0 y) →
+      Followed g t k forms.keeps way w.tree w.params (Named x (owned w.scope.next (typed w y)) ∷ w.scope.names) m (form_code w (var_form x None (Some (plain_initializer y))))
+  element_marked x (access_expr n (at_step e (at_step i no_step))) is f whole told scoped cut pc st =
+      let y = access_expr n (at_step e (at_step i no_step)) in
+      let bs = w.scope.names in
+      let near : spare w 0 ≡ slot_at w.params (length bs) + 2 = omega arith in
+      let rt = type_of_element w.scope (bound w n).static_type e in
+      let hi = put_room g t k slots have forms way w m asked n 0 (bound w n).static_type e i no_step f.1.0.partition pc st in
+      let D = part_shape g t k slots have forms way w m asked n f.0 f.1.0 in
+      put_marked x n e i (typed w y) _ _ (part_pointer w n e i f.1) (subst (λ s. s < length m.slots) near hi) D
+      (parent_numbered g t k slots have forms way w m asked n f.0 f.1.0)
+      (λ ss there. subst (HasPartBeside way w.params ss bs (length bs)) (element_taken rt i f.1.2)
+      (part_beside g t k slots have forms way w m asked n f.0 f.1.0 e f.1.1 ss there))
+      (subst (λ s. Marked g t k (stacked m []) (expr_code w 0 y) (stacked (set_mark m s D []) (shape_of (typed w y) ∷ []))) near
+      (part_left g t k slots have forms way w m asked f.0 n e i [] f.1 f.2 f.3 whole told pc st)) scoped cut
+  element_marked x _ is f whole told scoped cut pc st = absurd is
 
   pub begun_marked : (x : Name) (e : Expression) → ToldForm way w.tree w.scope (var_form x None (Some (plain_initializer e))) → IsKeepable forms.keeps w e → IsTyped forms w e →
       Asks forms.keeps (is_value true (owned w.scope.next (typed w e)) && is_whole_expression true w e) → (pc : ℕ) →
@@ -204,13 +268,14 @@ module _ (g : Program) (t : TaskCode) (k slots : ℕ) (have : HasSlots t slots) 
       (λ all. begun_scoped forms w all forms.keeps e w.scope.next keep typing) in
       let cut = cut_plain forms.keeps way w.tree w.scope form b w.params m.facts m.facts refl told (λ l h. h) asked.cut
       (subst IsNoCut (sym same) (worth_no_partition (typed w e) worth)) in
-      ⊎_elim (λ child. copied_marked x e (begun_copy forms w forms.keeps e keep typing child) child worth scoped cut pc st)
+      let heads = told_plain way forms w e typing inside (told_heads w.tree w.scope way form told) in
+      let stands = plain_stands t.body w e w.scope.next (typed w e) pc is st.0 in
+      ⊎_elim (λ child. ⊎_elim (λ copy. copied_marked x e copy child worth scoped cut pc st)
+      (λ part. element_marked x e part typing inside heads scoped cut pc stands) (begun_copy forms w forms.keeps e keep typing child))
       (λ none. bind_marked g t k slots have forms way w m asked x (shape_of (typed w e)) u _
       (λ x v. subst (λ s. Is x s v) (sym (ap (shape_in way w.params) same ∙ worth_named way w.params _ worth)))
       (subst (λ y. IsNumbered (b ∷ w.scope.names) (shape_in way w.params y)) (sym same) (worth_numbered way w.params (b ∷ w.scope.names) (typed w e) worth))
       scoped cut (subst NamesNoChild (sym same) none)
       (plain_marked g t k slots have forms way w m asked (typed w e) e w.scope.next _ _ is none
-      (value_marked g t k slots have forms way w m asked e [] typing inside
-      (told_plain way forms w e typing inside (told_heads w.tree w.scope way form told)) pc
-      (plain_stands t.body w e w.scope.next (typed w e) pc is st.0)))
+      (value_marked g t k slots have forms way w m asked e [] typing inside heads pc stands))
       (stored g t k slots have forms way w m asked _ _ st.1)) (either (names_child (reaches_of (typed w e))))

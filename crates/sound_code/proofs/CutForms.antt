@@ -1,5 +1,5 @@
 -- Statements that make partitions and keep them have marks. What is known of a new one is of which region it is.
-use Rattle.std.proofs.Common.{◌≡◌, inl, inr, ℕ, suc, ◌<◌, List, [], ◌∷◌, Bool, true, false, ◌||◌, None, Option, Some, refl, sym, ap, ◌∙◌, subst, arith}
+use Rattle.std.proofs.Common.{⊎_elim, ◌≡◌, inl, inr, ℕ, suc, ◌<◌, List, [], ◌∷◌, Bool, true, false, ◌||◌, None, Option, Some, refl, sym, ap, ◌∙◌, subst, arith}
 use Rattle.std.specs.Prelude.{length}
 use Rattle.regent_tree.specs.Accesses.{space_in}
 use Rattle.regent_tree.specs.Scopes.{bound_as}
@@ -36,6 +36,7 @@ use Rattle.fit_rules.specs.Shapes.{Among, partition, Shape, space}
 use Rattle.fit_rules.specs.Marks.{Holds, Mark, parted, stacked, topped, top_parted}
 use Rattle.fit_rules.specs.Fits.{Program}
 use Rattle.fit_rules.specs.Sound.{Allowed, HasRegion}
+use Rattle.sound_code.specs.Places.{IsBehind}
 use Rattle.sound_code.specs.Named.{HasSlots, is_parted, IsSteady, slot_at, loops_in}
 use Rattle.sound_code.proofs.WholeTasks.{is_whole_expression}
 use Rattle.sound_code.specs.Ways.{Way}
@@ -96,6 +97,7 @@ module _ (g : Program) (t : TaskCode) (k slots : ℕ) (have : HasSlots t slots) 
         };
         narrower = narrow_set m.slots m.slots slot _ (narrow_itself m.slots) (inl (ready.free slot (omega arith) hi));
         facts = λ l a. inr a;
+        new = λ l a. ⊎_elim (λ e. inr (subst (IsBehind w.params) e (slot_high w.params (length names) ready.low))) (λ h. inl h) a;
         scoped = scoped_bound forms.keeps way w.tree w.scope form b refl told asked.scoped (λ all. refl);
         cut = cut_bound forms.keeps way w.tree w.scope form b w.params m.facts (parted slot s ∷ m.facts) refl told (λ l a. inr a) asked.cut
             (λ tops task by. (region, inl (ap (parted slot) same)));

@@ -176,11 +176,15 @@ module _ (g : Program) (t : TaskCode) (k slots : ℕ) (have : HasSlots t slots) 
     of : IsCutOf w m n (parent n)
     of = cut_of g t k slots forms way w m asked n keeps cut
 
+    -- the shape of a part
+    abbrev pub part_shape : Shape
+    part_shape = region (Some (space_in (bound_as w.scope.names (parent n)).static_type)) (within n)
+
     -- it is numbered by a name
-    parent_numbered : IsOfNumber w.scope.names (within n)
+    pub parent_numbered : IsOfNumber w.scope.names (within n)
     parent_numbered = numbered_at w.scope.names m.slots _ _ asked.ready.numbered (parent_there g t k slots forms way w m asked n keeps cut)
 
-    part_beside : (e : Expression) → IsOwnCut w n → (ss : List Shape) →
+    pub part_beside : (e : Expression) → IsOwnCut w n → (ss : List Shape) →
         slice_get ss (slot_at w.params (length w.scope.names) + 2) ≡ Some (region (Some (space_in (bound_as w.scope.names (parent n)).static_type)) (within n)) →
         HasPartBeside way w.params ss w.scope.names (length w.scope.names) (taken_from (type_of_element w.scope (bound w n).static_type e))
     part_beside e own ss there =

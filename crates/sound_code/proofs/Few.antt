@@ -23,9 +23,10 @@ use Rattle.code_rules.specs.Statements.{after_arm, after_arms, after_form, loopi
 use Rattle.code_laws.proofs.Names.{arms_names, else_names}
 use Rattle.code_laws.proofs.Openings.{types_cons, types_in}
 use Rattle.code_laws.proofs.Typing.{AreKept, kept_behind, kept_left, kept_right}
+use Rattle.code_laws.proofs.PartTypes.{a_part_pointer, IsPartPointer, part_pointer}
 use Rattle.code_laws.proofs.Wider.{any_field, begun, keepable}
 use Rattle.code_laws.specs.Steps.{Forms}
-use Rattle.code_laws.specs.Typed.{part_element, element_field, field_behind, IsLooped, AreTypedArms, BeginsAsPart, IsBegun, IsDifference, IsIndexed, IsKeepable, IsPointing, IsTyped, IsTypedBlock, IsTypedElse, IsTypedForm}
+use Rattle.code_laws.specs.Typed.{part_element, element_field, field_behind, IsLooped, AreTypedArms, BeginsAsPart, IsBegun, IsDifference, IsIndexed, IsKeepable, IsPartElement, IsPointing, IsTyped, IsTypedBlock, IsTypedElse, IsTypedForm}
 use Rattle.fit_rules.specs.Shapes.{Each}
 use Rattle.sound_code.proofs.WholeTasks.{are_whole_arguments, are_whole_arms, are_whole_expressions, are_whole_links, is_value, is_whole_block, is_whole_domain, is_whole_else, is_whole_expression, is_whole_form, is_whole_program, is_whole_task, names_region, takes_part}
 use Rattle.sound_code.proofs.FewTypes.{value_few, written_few, said_few, owned_few, taken_few, counted_few, element_few, colours_few, minus_few}
@@ -197,6 +198,14 @@ module _ (forms : Forms) where
   pointing_few w few (access_expr n (at_step e (at_step i (field_step l (at_step y rest))))) k p f = absurd f.5
   pointing_few w few _ k p f = absurd p
 
+  -- an element of a part goes into one region
+  part_pointer_few : (t : StaticType) (own sp : ℕ) → IsPartPointer t own sp → HasFew t
+  part_pointer_few _ _ _ (a_part_pointer k sp args own c) = omega arith
+
+  part_element_few : (w : Where) (e : Expression) → IsPartElement e → IsTyped forms w e → HasFew (typed w e)
+  part_element_few w (access_expr n (at_step e (at_step i no_step))) p f = part_pointer_few (part_element w n e i) _ _ (part_pointer w n e i f.1)
+  part_element_few w _ p f = absurd p
+
   difference_few : (w : Where) (e : Expression) → IsDifference w e → HasFew (typed w e)
   difference_few w (chain_expr (access_expr p no_step) (a_link (Compute Subtract) (access_expr q no_step) no_link)) d =
       minus_few (bound w p).static_type (bound w q).static_type d.first.partition
@@ -205,7 +214,7 @@ module _ (forms : Forms) where
   begun_few : (w : Where) → FewIn w → (e : Expression) → AreKept (parts_of_expression e) → IsBegun forms.keeps w e (IsKeepable forms.keeps w e × IsTyped forms w e) (BeginsAsPart forms.takes w e (IsIndexed forms w e)) →
       HasFew (typed w e)
   begun_few w few e k f = ⊎_elim
-      (λ (b : IsKeepable forms.keeps w e × IsTyped forms w e). ⊎_elim (simple_few (typed w e)) (λ p. pointing_few w few e k p.1 b.1) (keepable forms.keeps w e b.0))
+      (λ (b : IsKeepable forms.keeps w e × IsTyped forms w e). ⊎_elim (simple_few (typed w e)) (λ p. ⊎_elim (λ q. pointing_few w few e k q b.1) (λ q. part_element_few w e q b.1) p.1) (keepable forms.keeps w e b.0))
       (⊎_elim (difference_few w e) (begun_part_few forms.takes w e (IsIndexed forms w e)))
       (begun forms.keeps w e (IsKeepable forms.keeps w e × IsTyped forms w e) (BeginsAsPart forms.takes w e (IsIndexed forms w e)) f)
 

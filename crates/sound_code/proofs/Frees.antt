@@ -1,8 +1,8 @@
 -- What is asked of a task holds of one that is typed, where each fill names a field: each name that is read has a value.
-use Rattle.std.proofs.Common.{◌≡◌, ◌⊎◌, ⊎_elim, ℕ, zero, suc, List, [], ◌∷◌, true, false, ◌&&◌, ◌||◌, None, Some, refl, sym, ap, ◌∙◌, subst}
+use Rattle.std.proofs.Common.{◌≡◌, ◌⊎◌, ⊎_elim, ℕ, zero, suc, List, [], ◌∷◌, true, false, ◌&&◌, ◌||◌, None, Some, refl, sym, ap, subst}
 use Rattle.std.specs.List.{list_all}
 use Rattle.std.specs.Prelude.{slice_get}
-use Rattle.std.proofs.lemmas.Bool.{and_parts, false≢true, or_left, or_right}
+use Rattle.std.proofs.lemmas.Bool.{false≢true, or_left, or_right}
 use Rattle.regent_tree.specs.Execution.{before_last}
 use Rattle.regent_tree.specs.StaticTypes.{task_named}
 use Rattle.regent_tree.specs.Syntax.{a_link, a_statement, access_expr, an_arm, an_expr, Arms, assert_form, assign_form, at_step, Block, both_initializer, by_field_initializer, call_expr, call_form, cast_expr, chain_expr, convert_expr, do_form, either_initializer, else_block, equal_initializer, Expression, Expressions, field_step, fill_form, for_in_form, for_to_form, Form, if_form, image_initializer, is_null_expr, Links, Name, no_arm, no_else, no_expr, no_link, no_statement, no_step, null_expr, number_expr, Otherwise, plain_initializer, prefix_expr, preimage_initializer, print_form, region_initializer, return_form, space_expr, Steps, TaskTree, then_statement, Tree, truth_expr, var_form, while_form}
@@ -16,15 +16,14 @@ use Rattle.code_rules.specs.Instructions.{tasks_of}
 use Rattle.code_rules.specs.Programs.{place_of}
 use Rattle.code_rules.specs.Slots.{bound, typed, Where}
 use Rattle.code_rules.specs.Statements.{after_arm, after_arms, after_form, looping, on_line}
-use Rattle.statement_laws.specs.WrittenStatements.{names_field}
-use Rattle.local_form.specs.LocalForm.{are_fields}
+use Rattle.expression_laws.specs.WrittenStatements.{AreWrittenArms, IsWrittenBlock, IsWrittenElse, IsWrittenForm, names_field}
+use Rattle.code_laws.specs.Fields.{are_fields}
 use Rattle.code_laws.specs.Pointers.{BeginsWith, IsCounting, IsLike}
 use Rattle.code_laws.specs.Simple.{a_partition_type, IsPartition}
 use Rattle.code_laws.specs.Steps.{Forms}
 use Rattle.code_laws.specs.Typed.{BeginsAsPart, AreFilled, AreNumbers, ArePassed, AreTypedArms, AreTypedLinks, IsBegun, IsDifference, IsIndexed, IsKeepable, IsLooped, IsNamedRegion, IsPassed, IsTyped, IsTypedBlock, IsTypedElse, IsTypedForm, LoopsOver, LoopsOverPart}
 use Rattle.code_laws.proofs.Arguments.{given_by, handed_name, IsCutArgument, IsPartArgument}
 use Rattle.code_laws.proofs.Wider.{assigned, beginning, begun, compared, counting, filling, loops_over, looped_over, passing, signed_as, zeroed, said_either}
-use Rattle.sound_code.specs.FilledFields.{arms_name_fields, block_names_fields, else_names_fields, form_names_fields, names_fields, task_names_fields}
 use Rattle.sound_code.proofs.WholeTasks.{are_whole_arguments, are_whole_arms, are_whole_expressions, are_whole_links, is_value, is_whole_block, is_whole_domain, is_whole_else, is_whole_expression, is_whole_form, is_whole_program, is_whole_task, names_region, takes_part}
 use Rattle.sound_code.proofs.Truths.{both_true}
 use Rattle.sound_code.proofs.Values.{IsValue, integer_value, truth_value, space_value, pointer_value, counting_value, kept_value, into_values, passed_values, assigned_values, begins_values, itself_value, filled_value, compared_values, signed_value, region_sort, regions_sort, partition_sort}
@@ -206,7 +205,7 @@ module _ (forms : Forms) (keeps : forms.keeps ≡ true) where
   filled_whole w r (l ∷ fields) e some f = filled_value (typed w e) _ (filling forms.keeps (typed w e) _ f.0)
 
   mutual
-    form_whole : (w : Where) (form : Form) → IsTypedForm forms w form → form_names_fields form ≡ true → is_whole_form false w form ≡ true
+    form_whole : (w : Where) (form : Form) → IsTypedForm forms w form → IsWrittenForm form → is_whole_form false w form ≡ true
     form_whole w (var_form n None (Some (plain_initializer e))) f h = begun_whole w e f
     form_whole w (var_form n (Some t) (Some (plain_initializer e))) f h =
         let u = var_type w.tree w.scope (Some t) (Some (plain_initializer e)) in
@@ -236,20 +235,19 @@ module _ (forms : Forms) (keeps : forms.keeps ≡ true) where
     form_whole w (var_form n (Some t) (Some (both_initializer p q))) f h = refl
     form_whole w (var_form n (Some t) (Some (either_initializer p q))) f h = refl
     form_whole w (if_form arms other) f h =
-        let parts = and_parts (arms_name_fields arms) (else_names_fields other) h in
-        both_true (are_whole_arms false w w arms) (is_whole_else false (after_arms w arms) other) (arms_whole w w arms f.0 parts.0)
-        (else_whole (after_arms w arms) other f.1 parts.1)
+        both_true (are_whole_arms false w w arms) (is_whole_else false (after_arms w arms) other) (arms_whole w w arms f.0 h.0)
+        (else_whole (after_arms w arms) other f.1 h.1)
     form_whole w (while_form test body) f h =
-        both_true (is_whole_expression false w test) (is_whole_block false w body) (expr_whole w test f.1 (truth_value _ f.0)) (block_whole w body f.2 h)
+        both_true (is_whole_expression false w test) (is_whole_block false w body) (expr_whole w test f.1 (truth_value _ f.0)) (block_whole w body f.2 h.1)
     form_whole w (for_in_form d n domain body) f h =
         both_true (is_whole_domain false w domain) (is_whole_block false (looping w n (taken_from (typed w domain))) body) (domain_whole w domain _ f)
-        (block_whole (looping w n (taken_from (typed w domain))) body (looped_body w domain _ f) h)
+        (block_whole (looping w n (taken_from (typed w domain))) body (looped_body w domain _ f) h.1)
     form_whole w (for_to_form d n from to body) f h =
         let lw = looping w n (arithmetic_type (typed w from) (typed w to)) in
         both_true (is_whole_expression false w from) (is_whole_expression false w to && is_whole_block false lw body) (expr_whole w from f.2 (integer_value _ f.0))
-        (both_true (is_whole_expression false w to) (is_whole_block false lw body) (expr_whole w to f.3 (integer_value _ f.1)) (block_whole lw body f.4 h))
+        (both_true (is_whole_expression false w to) (is_whole_block false lw body) (expr_whole w to f.3 (integer_value _ f.1)) (block_whole lw body f.4 h.2))
     form_whole w (do_form body) f h = block_whole w body f h
-    form_whole w (fill_form r fields e) f h = expr_whole w e f.0 (filled_whole w r fields e h f.3)
+    form_whole w (fill_form r fields e) f h = expr_whole w e f.0 (filled_whole w r fields e h.1 f.3)
     form_whole w (assert_form e) f h = expr_whole w e f.1 (truth_value _ f.0)
     form_whole w (print_form alias format args) f h = numbers_whole w args f.0
     form_whole w (call_form task args) f h = args_whole w _ (param_types w.tree (task_named w.tree task)) args f.2
@@ -298,37 +296,34 @@ module _ (forms : Forms) (keeps : forms.keeps ≡ true) where
         (expr_whole w y f.3 (integer_value _ f.1))
     form_whole w _ f h = absurd f
 
-    block_whole : (w : Where) (b : Block) → IsTypedBlock forms w b → block_names_fields b ≡ true → is_whole_block false w b ≡ true
+    block_whole : (w : Where) (b : Block) → IsTypedBlock forms w b → IsWrittenBlock b → is_whole_block false w b ≡ true
     block_whole w no_statement f h = refl
     block_whole w (then_statement (a_statement line form) rest) f h =
-        let parts = and_parts (form_names_fields form) (block_names_fields rest) h in
-        both_true (is_whole_form false (on_line w line) form) (is_whole_block false (after_form w form) rest) (form_whole (on_line w line) form f.0 parts.0)
-        (block_whole (after_form w form) rest f.1 parts.1)
+        both_true (is_whole_form false (on_line w line) form) (is_whole_block false (after_form w form) rest) (form_whole (on_line w line) form f.0 h.0)
+        (block_whole (after_form w form) rest f.1 h.1)
 
-    arms_whole : (own w : Where) (arms : Arms) → AreTypedArms forms own w arms → arms_name_fields arms ≡ true → are_whole_arms false own w arms ≡ true
+    arms_whole : (own w : Where) (arms : Arms) → AreTypedArms forms own w arms → AreWrittenArms arms → are_whole_arms false own w arms ≡ true
     arms_whole own w no_arm f h = refl
     arms_whole own w (an_arm test body rest) f h =
-        let parts = and_parts (block_names_fields body) (arms_name_fields rest) h in
         both_true (is_whole_expression false own test) (is_whole_block false w body && are_whole_arms false own (after_arm w body) rest)
         (expr_whole own test f.1 (truth_value _ f.0))
-        (both_true (is_whole_block false w body) (are_whole_arms false own (after_arm w body) rest) (block_whole w body f.2 parts.0)
-        (arms_whole own (after_arm w body) rest f.3 parts.1))
+        (both_true (is_whole_block false w body) (are_whole_arms false own (after_arm w body) rest) (block_whole w body f.2 h.1)
+        (arms_whole own (after_arm w body) rest f.3 h.2))
 
-    else_whole : (w : Where) (other : Otherwise) → IsTypedElse forms w other → else_names_fields other ≡ true → is_whole_else false w other ≡ true
+    else_whole : (w : Where) (other : Otherwise) → IsTypedElse forms w other → IsWrittenElse other → is_whole_else false w other ≡ true
     else_whole w no_else f h = refl
     else_whole w (else_block body) f h = block_whole w body f h
 
 -- so it is of a program
 pub program_whole : (tree : Tree) → (forms : TaskTree → Forms) → ((t : TaskTree) → (forms t).keeps ≡ true) →
-    ((k : ℕ) (t : TaskTree) → slice_get (tasks_of tree) k ≡ Some t → IsTypedBlock (forms t) (place_of tree t) t.body) → names_fields tree ≡ true →
-    is_whole_program false tree ≡ true
-program_whole tree forms keeps typed h = all (tasks_of tree) typed h
+    ((k : ℕ) (t : TaskTree) → slice_get (tasks_of tree) k ≡ Some t → IsTypedBlock (forms t) (place_of tree t) t.body) →
+    ((k : ℕ) (t : TaskTree) → slice_get (tasks_of tree) k ≡ Some t → IsWrittenBlock t.body) → is_whole_program false tree ≡ true
+program_whole tree forms keeps typed written = all (tasks_of tree) typed written
   where
     all : (ts : List TaskTree) → ((k : ℕ) (t : TaskTree) → slice_get ts k ≡ Some t → IsTypedBlock (forms t) (place_of tree t) t.body) →
-        list_all task_names_fields ts ≡ true → list_all (is_whole_task false tree) ts ≡ true
-    all [] typed h = refl
-    all (t ∷ ts) typed h =
-        let parts = and_parts (task_names_fields t) (list_all task_names_fields ts) h in
+        ((k : ℕ) (t : TaskTree) → slice_get ts k ≡ Some t → IsWrittenBlock t.body) → list_all (is_whole_task false tree) ts ≡ true
+    all [] typed written = refl
+    all (t ∷ ts) typed written =
         both_true (is_whole_task false tree t) (list_all (is_whole_task false tree) ts)
-        (block_whole (forms t) (keeps t) (place_of tree t) t.body (typed zero t refl) parts.0)
-        (all ts (λ k u e. typed (suc k) u e) parts.1)
+        (block_whole (forms t) (keeps t) (place_of tree t) t.body (typed zero t refl) (written zero t refl))
+        (all ts (λ k u e. typed (suc k) u e) (λ k u e. written (suc k) u e))

@@ -32,7 +32,7 @@ use Rattle.code_rules.specs.Expressions.{expr_code}
 use Rattle.code_rules.specs.Pieces.{◌⨟◌}
 use Rattle.code_rules.specs.Slots.{typed, Where}
 use Rattle.code_rules.specs.Statements.{form_code}
-use Rattle.local_form.specs.LocalForm.{are_fields}
+use Rattle.code_laws.specs.Fields.{are_fields}
 use Rattle.code_laws.specs.Pointers.{Assigned}
 use Rattle.code_laws.specs.Simple.{IsInteger}
 use Rattle.code_laws.specs.Standing.{Stands}

@@ -15,7 +15,6 @@ use Rattle.regent_tree.specs.declared.typing.StaticType.TheVariants.{Region as r
 use Rattle.regent_tree.specs.Scopes.{Scope, scope_of}
 use Rattle.regent_tree.specs.Syntax.{Tree, TaskTree}
 use Rattle.code_laws.proofs.KnownHeads.{KnowsFacts}
-use Rattle.local_form.specs.LocalForm.{unmarked}
 use Rattle.regent_tree.proofs.Members.{Has}
 use Rattle.task_code.specs.declared.code.TaskCode.{TaskCode}
 use Rattle.check_rules.specs.scopes.Sound.{IsSound, IsSoundTask}
@@ -95,7 +94,7 @@ pub record Kept (t : TaskCode) (tops : Tops) (task : TaskTree) (tree : Tree) (pa
   pub next : params ≤ s.next
   pub placed : Each (IsPlaced params) s.names
   pub begun : (k : Known) → Has (scope_of tree task).known k → IsTold params (tops task) (opening_facts (by_rules tops task) tree task) k
-  pub head : KnowsFacts unmarked tree task s
+  pub head : KnowsFacts tree task s
 
 abbrev pub Ground : TaskCode → Way → Tree → ℕ → Scope → Type 0
 Ground t all_made tree params s = Unit {0}

@@ -22,7 +22,6 @@ use Rattle.fit_rules.specs.Marks.{Fact}
 use Rattle.sound_code.specs.Ways.{Tops, Way, all_made, by_rules, opening_facts}
 use Rattle.sound_code.proofs.Wholes.{IsWorth, worth_pointer, worth_simple}
 use Rattle.sound_code.proofs.Grounds.{BeginsUnder, BeginsWholly, Ground, HasSaid, IsBegun, IsSaid, IsTold, Kept, OfType, said_begun, said_made, said_of, tells_begun, tells_made, tells_part, top_whole}
-use Rattle.local_form.specs.LocalForm.{unmarked}
 
 -- names that were bound before others are among these
 grown_has : {before after : List Bound} → Grown before after → (b : Bound) → Has before b → Has after b
@@ -102,7 +101,7 @@ module _ (t : TaskCode) (tops : Tops) (task : TaskTree) (tree : Tree) (params : 
   kept_named : (s : Scope) (n : Named) (u : StaticType) (by_loop : Bool) (more : List Known) → Kept t tops task tree params s →
       OfType params (length s.names) u → HasSaid params (s.known ++ more) u → ((k : Known) → Has more k → IsTold params up ks k) →
       ((i p : ℕ) (c : Colour) → Has more (Within (Name i) (Child p c)) → IsBegun params up (s.known ++ more) i p) →
-      KnowsFacts unmarked tree task (knowing (with_name s n u by_loop) more) → Kept t tops task tree params (knowing (with_name s n u by_loop) more)
+      KnowsFacts tree task (knowing (with_name s n u by_loop) more) → Kept t tops task tree params (knowing (with_name s n u by_loop) more)
   kept_named s n u by_loop more h o said tells begins head = record {
     sound = h.sound;
     sound_task = h.sound_task;

@@ -52,7 +52,7 @@ use Rattle.sound_code.proofs.WholeTasks.{are_whole_arguments}
 use Rattle.sound_code.proofs.Wholes.{Asks, asks_first, asks_second, given_whole, IsWorth, worth_named}
 use Rattle.sound_code.proofs.Parts.{parent_named}
 use Rattle.sound_code.proofs.Asked.{AreTops, AskedAt, Hands, hands_none, hands_taken, Known, told_total, UpTo}
-use Rattle.sound_code.proofs.Calling.{nothing_needed, onto, opening_suits, opens, passed_many, passed_worth, some_body, takes_settled, types_many, worth_is}
+use Rattle.sound_code.proofs.Calling.{args_many, nothing_needed, onto, opening_suits, opens, passed_many, passed_worth, some_body, takes_settled, types_many, worth_is}
 use Rattle.sound_code.proofs.Colours.{named_low, slot_low}
 use Rattle.sound_code.proofs.Cuts.{CutBy}
 use Rattle.sound_code.proofs.Combining.{both, Marked, nothing_done}
@@ -296,55 +296,61 @@ module _ (g : Program) (t : TaskCode) (k slots : ℕ) (forms : Forms) (way : Way
         n.field < length (space_at w.tree (space_in (parent_bound w p.0).static_type)).fields → n.field < length (space_at w.tree d.space).fields
     part_field x ws n p d l = subst (λ sp. n.field < length (space_at w.tree sp).fields) (sym d.same) l
 
+    each_needed : (x : World) (ws : List Value) (ns : List NeedCode) → ((n : NeedCode) → Among ns n → IsNeeded g x ws n) → Each (IsNeeded g x ws) ns
+    each_needed x ws [] h = tt
+    each_needed x ws (n ∷ ns) h = (h n (inl refl), each_needed x ws ns (λ d i. h d (inr i)))
+
     taken_opens : (tops : Tops) (task : TaskTree) (y : Taking) → way ≡ by_rules tops task → forms.takes ≡ Some y → y.params ≡ t.params → y.needs ≡ t.needs →
         y.within ≡ pairs_in (scope_of w.tree task).known → AreTops y t.params (tops task) → (forms.keeps ≡ false → (i : ℕ) → tops task i ≡ None) →
         Opens g t before place (task_code w.tree callee) shapes
-    taken_opens tops task y by takes params needs within tells none x vs st ws knows s a =
-        let z = around x before vs in
-        let known = subst (λ v. Known v g w.tree) by asked.known in
-        let kept = subst (λ v. Ground t v w.tree w.params w.scope) by asked.ground in
-        let facts = subst (λ v. HasFacts v w.tree m.facts) by asked.facts in
-        let call = subst (λ v. ToldCall v w.tree w.scope name es) by told in
-        let are = subst (λ v. Are z (all_handed v w types es) ws) by a in
-        let flags = flags_told w task kept.sound call.0 (known_types w.tree w.scope es) types es call.1
-        (subst (λ ts. mispartition_in (known_types w.tree w.scope es) ts (known_types w.tree w.scope es) ≡ false) (ap types_in_order (kept.sound.params name))
-        (call_parts w.tree task w.scope (calling name (known_types w.tree w.scope es)) call.2).parted) in
-        let names = subst (λ v. AreNamed v w.params m.slots w.scope.names) by asked.ready.named in
-        let of : (n : NeedCode) (q : IsNeedOf y w n (name_at es n.param)) → IsArgument z ws n.param (shape_in (by_rules tops task) w.params (bound w q.name).static_type) =
-        λ n q. subst (λ v. IsArgument z ws n.param (shape_in v w.params (bound w q.name).static_type)) by (need_place y z ws a n q) in
-        let part : (n : NeedCode) (q : IsPartNeed y w n (part_at es n.param)) (d : IsPartGiven forms way w z ws n.param q.it) →
-        IsArgument z ws n.param (given_part (by_rules tops task) w.params d.space (parent_of (bound w q.it.0).static_type)) =
-        λ n q d. subst (λ v. IsArgument z ws n.param (given_part v w.params d.space (parent_of (bound w q.it.0).static_type))) by d.given in (
-          subst (λ v. Suits (called x ws) (length callee.params) v (ws ++ replicate ((task_code w.tree callee).slots - length ws) (value.Number (pos 0))) [])
-              (sym (known.begins place callee is.0))
-              (opening_suits (by_rules tops callee) w.tree callee x ws
-              (are_taken forms way tops w callee (length callee.params) z ws 0 ts types es ws (params_low w.tree callee) (params_own w.tree callee) flags (λ i v e.
-              let from : 0 + i ≡ i = omega arith in subst (λ j. slice_get ws j ≡ Some v) (sym from) e) passed whole a)
-              (facts_told tops task t w kept before facts asked.params names asked.ready.fixed x vs st ws knows s forms y takes name ts es
-              (λ q. subst (λ v. ScopedBy v w.scope.names) by (asked.scoped q)) is passed whole (λ q. subst (λ v. CutBy v w.tree w.params m.facts w.scope.names) by (asked.cut q))
-              (told_total w.tree task w.scope (subst (λ v. UpTo v w.tree w.scope) by asked.upto)) none are call)),
-          each_needed (task_code w.tree callee).needs (λ n h. ⊎_elim
-              (λ (q : IsNeedOf y w n (name_at es n.param)).
-              needed_of g t w tops task known asked.params kept before facts y params needs within tells x vs st s n (bound w q.name).static_type ws q.of_region q.field (of n q))
-              (λ c.
-              let q = c.1 in
-              let d = part_place y z ws a n q in
-              needed_by g t w tops task known asked.params kept before facts y params needs within tells x vs st s n d.space _ ws
-              (part_field z ws n q.it d q.field) (part n q d)) (need_at y takes n h)),
-          covered_needs_are_within g x t (task_code w.tree callee).needs ws (λ n h r er p ip. ⊎_elim
-              (λ (q : IsNeedOf y w n (name_at es n.param)).
-              granted_of g t w tops task known asked.params kept before facts y params needs within tells x vs st s n (bound w q.name).static_type ws q.of_region q.field q.may (of n q) r er p ip)
-              (λ c.
-              let q = c.1 in
-              let d = part_place y z ws a n q in
-              granted_part g t w tops task known asked.params kept before facts y params needs within tells x vs st s n d.space (parent_of (bound w q.it.0).static_type) ws
-              (part_field z ws n q.it d q.field)
-              (subst (λ u. MayDo (Some y) u n.field n.mode) (parent_named g t k slots forms way w m asked q.it.0 c.0 q.cut) q.may) (part n q d) r er p ip) (need_at y takes n h)),
-        )
-      where
-        each_needed : (ns : List NeedCode) → ((n : NeedCode) → Among ns n → IsNeeded g x ws n) → Each (IsNeeded g x ws) ns
-        each_needed [] h = tt
-        each_needed (n ∷ ns) h = (h n (inl refl), each_needed ns (λ d i. h d (inr i)))
+    taken_opens tops task y by takes params needs within tells none = (
+      asked.known.first place callee is.0,
+      λ x vs st ws knows s a.
+          let z = around x before vs in
+          let known = subst (λ v. Known v g w.tree) by asked.known in
+          let kept = subst (λ v. Ground t v w.tree w.params w.scope) by asked.ground in
+          let facts = subst (λ v. HasFacts v w.tree m.facts) by asked.facts in
+          let call = subst (λ v. ToldCall v w.tree w.scope name es) by told in
+          let are = subst (λ v. Are z (all_handed v w types es) ws) by a in
+          let flags = flags_told w task kept.sound call.0 (known_types w.tree w.scope es) types es call.1
+          (subst (λ ts. mispartition_in (known_types w.tree w.scope es) ts (known_types w.tree w.scope es) ≡ false) (ap types_in_order (kept.sound.params name))
+          (call_parts w.tree task w.scope (calling name (known_types w.tree w.scope es)) call.2).parted) in
+          let names = subst (λ v. AreNamed v w.params m.slots w.scope.names) by asked.ready.named in
+          let of : (n : NeedCode) (q : IsNeedOf y w n (name_at es n.param)) → IsArgument z ws n.param (shape_in (by_rules tops task) w.params (bound w q.name).static_type) =
+          λ n q. subst (λ v. IsArgument z ws n.param (shape_in v w.params (bound w q.name).static_type)) by (need_place y z ws a n q) in
+          let part : (n : NeedCode) (q : IsPartNeed y w n (part_at es n.param)) (d : IsPartGiven forms way w z ws n.param q.it) →
+          IsArgument z ws n.param (given_part (by_rules tops task) w.params d.space (parent_of (bound w q.it.0).static_type)) =
+          λ n q d. subst (λ v. IsArgument z ws n.param (given_part v w.params d.space (parent_of (bound w q.it.0).static_type))) by d.given in
+          let taken = are_taken forms way tops w callee (length callee.params) z ws 0 ts types es ws (params_low w.tree callee) (params_own w.tree callee) flags (λ i v e.
+          let from : 0 + i ≡ i = omega arith in subst (λ j. slice_get ws j ≡ Some v) (sym from) e) passed whole a in (
+            (
+              args_many (by_rules tops callee) w.tree callee (called x ws) ws taken,
+              subst (λ v. Suits (called x ws) (length callee.params) v (ws ++ replicate ((task_code w.tree callee).slots - length ws) (value.Number (pos 0))) [])
+                  (sym (known.begins place callee is.0))
+                  (opening_suits (by_rules tops callee) w.tree callee x ws taken
+                  (facts_told tops task t w kept before facts asked.params names asked.ready.fixed x vs st ws knows s forms y takes name ts es
+                  (λ q. subst (λ v. ScopedBy v w.scope.names) by (asked.scoped q)) is passed whole (λ q. subst (λ v. CutBy v w.tree w.params m.facts w.scope.names) by (asked.cut q))
+                  (told_total w.tree task w.scope (subst (λ v. UpTo v w.tree w.scope) by asked.upto)) none are call)),
+            ),
+            each_needed x ws (task_code w.tree callee).needs (λ n h. ⊎_elim
+                (λ (q : IsNeedOf y w n (name_at es n.param)).
+                needed_of g t w tops task known asked.params kept before facts y params needs within tells x vs st s n (bound w q.name).static_type ws q.of_region q.field (of n q))
+                (λ c.
+                let q = c.1 in
+                let d = part_place y z ws a n q in
+                needed_by g t w tops task known asked.params kept before facts y params needs within tells x vs st s n d.space _ ws
+                (part_field z ws n q.it d q.field) (part n q d)) (need_at y takes n h)),
+            covered_needs_are_within g x t (task_code w.tree callee).needs ws (λ n h r er p ip. ⊎_elim
+                (λ (q : IsNeedOf y w n (name_at es n.param)).
+                granted_of g t w tops task known asked.params kept before facts y params needs within tells x vs st s n (bound w q.name).static_type ws q.of_region q.field q.may (of n q) r er p ip)
+                (λ c.
+                let q = c.1 in
+                let d = part_place y z ws a n q in
+                granted_part g t w tops task known asked.params kept before facts y params needs within tells x vs st s n d.space (parent_of (bound w q.it.0).static_type) ws
+                (part_field z ws n q.it d q.field)
+                (subst (λ u. MayDo (Some y) u n.field n.mode) (parent_named g t k slots forms way w m asked q.it.0 c.0 q.cut) q.may) (part n q d) r er p ip) (need_at y takes n h)),
+          ),
+    )
 
     call_opens : Opens g t before place (task_code w.tree callee) shapes
     call_opens = of asked.hands

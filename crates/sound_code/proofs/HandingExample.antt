@@ -20,7 +20,7 @@ use Rattle.machine_terms.specs.declared.value.RegionValue.{RegionValue}
 use Rattle.machine_terms.specs.Pointers.{region_in}
 use Rattle.plain_values.specs.Points.{has, IsPoints}
 use Rattle.std.specs.Prelude.{slice_get}
-use Rattle.sound_code.proofs.Rules.{handing_tasks_are_sound, local_programs_are_sound}
+use Rattle.sound_code.proofs.Rules.{handing_tasks_are_sound, plain_programs_are_sound}
 
 tasks : AreTypedBy true false hands_program
 tasks zero t e = subst (IsTypedBy true false hands_program) (same_Some _ t e) (record {
@@ -132,4 +132,4 @@ hands_example_holds = record {
 }
 
 pub handed_is_sound : HandedIsSound
-handed_is_sound = local_programs_are_sound handing_program (pos 2 ∷ []) (record { run = handing_example_holds.accepted; plain = refl })
+handed_is_sound = plain_programs_are_sound handing_program (pos 2 ∷ []) (record { run = handing_example_holds.accepted; plain = refl })

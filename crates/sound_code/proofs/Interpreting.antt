@@ -90,12 +90,12 @@ module _ (x : World) (params : ℕ) (up : ℕ → Option (ℕ × ℕ)) (vs : Lis
       SharesNoPoint (made_at x o) (taken_at q)
   made_from_taken i r None q e f root point h j = nothing_in root point h
   made_from_taken i r (Some u) None e f root point h j = nothing_in root point j
-  made_from_taken i r (Some u) (Some v) e f root point h j = knows.args_other r i v f (e ∙ ap Some (h.0 ∙ sym j.0))
+  made_from_taken i r (Some u) (Some v) e f root point h j = knows.args_other r i point v f j.1 (e ∙ ap Some (h.0 ∙ sym j.0))
 
   made_from_made : (i r : ℕ) (o q : Option ℕ) → x.last i ≡ o → x.last r ≡ q → i ≢ r → SharesNoPoint (made_at x o) (made_at x q)
   made_from_made i r None q e f n root point h j = nothing_in root point h
   made_from_made i r (Some u) None e f n root point h j = nothing_in root point j
-  made_from_made i r (Some u) (Some v) e f n root point h j = n (knows.one_number i r u e (f ∙ ap Some (j.0 ∙ sym h.0)))
+  made_from_made i r (Some u) (Some v) e f n root point h j = n (knows.one_number i r u point e (f ∙ ap Some (j.0 ∙ sym h.0)) h.1)
 
   abbrev m : Interpretation
   m = standing_for x params up

@@ -74,10 +74,12 @@ pub mod Domains
 pub mod Behind
 pub mod Bindings
 pub mod Copies
+pub mod Stops
 pub mod Blocks
 pub mod Tasks
 pub mod Entries
 pub mod InOrder
+pub mod OfTree
 pub mod Openings
 pub mod Accepted
 pub mod Beginning
@@ -89,4 +91,6 @@ pub mod WholeExample
 pub mod CutsExample
 pub mod SiblingsExample
 pub mod PiecesExample
-pub mod Written
+pub mod LeftWith
+pub mod MiddleParts
+pub mod MiddleExample

@@ -31,7 +31,7 @@ use Rattle.code_laws.specs.Simple.{IsSimple, simple_integer}
 use Rattle.sound_code.specs.Ways.{Way, all_made, opening_facts, shape_in, shape_of}
 use Rattle.sound_code.specs.Programs.{BeginsWell, CallsAreSound, entry_place, first_world, RegionTasksAreSound, RunsSoundly, ScalarTasksAreSound, ScalarProgramsAreSound, TasksRunSoundly}
 use Rattle.sound_code.proofs.Asked.{hands_none, other}
-use Rattle.sound_code.proofs.Calling.{opening_suits, simples_worth, some_body, types_many, worths_are, worths_named, worths_told}
+use Rattle.sound_code.proofs.Calling.{args_many, opening_suits, simples_worth, some_body, types_many, worths_are, worths_named, worths_told}
 use Rattle.sound_code.proofs.Entries.{named_there}
 use Rattle.sound_code.proofs.InOrder.{never_breaks, run_keeps_all}
 use Rattle.sound_code.proofs.Parameters.{params_settled}
@@ -70,10 +70,12 @@ module _ (tree : Tree) (way : Way) (lists : ℕ → List Mark) (marked : IsMarke
   opened k t there x args turns depth few a told =
       opening_fits (remarked (bare tree way) (marks_of tree way lists)) x k (task_code tree t) args turns depth few (some_body tree t)
       (all_there (called x args) _ args (params_settled (other way t) (length t.params) tree t) a)
-      (begins tree way lists marked k (task_code tree t) (slice_get-map (task_code tree) (tasks_of tree) k ∙ ap (option_map (task_code tree)) there) (called x args) _ []
-      (subst (λ y. Suits (called x args) (length t.params) (first_of tree way y)
-      (args ++ replicate ((task_code tree t).slots - length args) (Number (pos 0))) []) (sym (is_at tree way k t there))
-      (opening_suits (other way t) tree t x args a told)))
+      (begins tree way lists marked k (task_code tree t) (slice_get-map (task_code tree) (tasks_of tree) k ∙ ap (option_map (task_code tree)) there)) (
+        args_many (other way t) tree t (called x args) args a,
+        subst (λ y. Suits (called x args) (length t.params) (first_of tree way y)
+            (args ++ replicate ((task_code tree t).slots - length args) (Number (pos 0))) []) (sym (is_at tree way k t there))
+            (opening_suits (other way t) tree t x args a told),
+      )
 
   -- with numbers, truths, indices and index spaces
   pub simply_opened : (k : ℕ) (t : TaskTree) → slice_get (tasks_of tree) k ≡ Some t → Each IsSimple (param_types tree t) → (x : World) (args : List Value)
@@ -160,7 +162,7 @@ module _ (tree : Tree) (way : Way) (marks_at : (k : ℕ) (t : TaskTree) → slic
   chosen_treated k t None e q = absurd (none-some t q)
   chosen_treated k t (Some u) e q = subst (λ y. Treated tree way k y (marks_at k u e).marks) (same_Some u t q) (marks_at k u e).treated
 
-  all_treated : (k : ℕ) (t : TaskTree) → slice_get (tasks_of tree) k ≡ Some t → Treated tree way k t (all k)
+  pub all_treated : (k : ℕ) (t : TaskTree) → slice_get (tasks_of tree) k ≡ Some t → Treated tree way k t (all k)
   all_treated k t there = chosen_treated k t (slice_get (tasks_of tree) k) refl there
 
   pub all_marked : IsMarked tree way all

@@ -1,7 +1,7 @@
 -- Elements of parts that have no name: a part is put aside with its shape, marks tell of it until the element has been taken, and what the
 -- rules allow of its fields is allowed through the slot in which it is.
 use Rattle.std.proofs.Common.{◌≡◌, false, inl, ℕ, zero, suc, ◌+◌, ◌<◌, ◌≤◌, List, [], ◌∷◌, true, None, Some, refl, sym, ap, ◌∙◌, subst, arith}
-use Rattle.std.specs.Prelude.{length, not, slice_get}
+use Rattle.std.specs.Prelude.{length, not}
 use Rattle.std.specs.Option.{option_or}
 use Rattle.std.proofs.lemmas.List.{length-set}
 use Rattle.plain_values.proofs.Plain.{option_or_parts}
@@ -11,7 +11,7 @@ use Rattle.regent_tree.specs.Lookup.{is_bound, type_named}
 use Rattle.regent_tree.specs.Scopes.{Scope, bound_as}
 use Rattle.regent_tree.specs.StaticTypes.{field_place, space_at}
 use Rattle.regent_tree.specs.Syntax.{access_expr, at_step, Expression, field_step, Name, no_step, Steps, TaskTree, Tree}
-use Rattle.regent_tree.specs.Typing.{has_wild, parent_of, reaches_of, stepped_type, type_of, type_of_element, type_of_field}
+use Rattle.regent_tree.specs.Typing.{has_wild, parent_of, reaches_of, stepped_type, type_of_element, type_of_field}
 use Rattle.regent_tree.specs.declared.facts.Term.TheVariants as term
 use Rattle.regent_tree.specs.declared.rights.Access.{Access}
 use Rattle.regent_tree.specs.declared.rights.Access.TheVariants.{Read}
@@ -20,7 +20,7 @@ use Rattle.regent_tree.specs.declared.typing.StaticType.{StaticType}
 use Rattle.task_code.specs.declared.code.TaskCode.{TaskCode}
 use Rattle.task_code.specs.declared.instr.Instr.TheVariants as instr
 use Rattle.check_laws.proofs.Scopes.{found_by_number}
-use Rattle.check_rules.specs.first.FirstInExpressions.{first_in_expression, first_in_steps, first_of_step, first_of_taking}
+use Rattle.check_rules.specs.first.FirstInExpressions.{first_in_expression, first_of_step, first_of_taking}
 use Rattle.check_rules.specs.first.Rules.{rule_if}
 use Rattle.check_rules.specs.scopes.Sound.{IsSound}
 use Rattle.check_rules.specs.types.KnownTypes.{known_type, known_type_after_step}
@@ -29,7 +29,7 @@ use Rattle.check_rules.specs.declared.rule.Rule.TheVariants as rule
 use Rattle.check_laws.specs.SoundScopes.{IsSoundScope}
 use Rattle.check_rules.proofs.Untold.{rule_none}
 use Rattle.code_rules.specs.Expressions.{expr_code, steps_code}
-use Rattle.code_rules.specs.Instructions.{field_code, load_code}
+use Rattle.code_rules.specs.Instructions.{load_code}
 use Rattle.code_rules.specs.Pieces.{◌⨟◌, Piece}
 use Rattle.code_rules.specs.Slots.{bound, own_slot, slot_bound, slot_named, slots_of, spare, typed, Where}
 use Rattle.code_laws.specs.Arguments.{IsCutName}

@@ -1,18 +1,15 @@
 -- Assignments to fields of elements of parts that have no name, and their reductions: the field is reached through the slot in which the
 -- part is.
-use Rattle.std.proofs.Common.{◌≡◌, ℕ, suc, ◌<◌, ◌≤◌, List, [], ◌∷◌, true, false, ◌&&◌, None, refl, ap, ◌∙◌, sym, subst, arith}
+use Rattle.std.proofs.Common.{◌≡◌, ℕ, ◌<◌, ◌≤◌, List, [], ◌∷◌, true, false, ◌&&◌, None, refl, ap, ◌∙◌, sym, subst, arith}
 use Rattle.std.specs.Prelude.{length, not}
 use Rattle.std.specs.Option.{option_or}
 use Rattle.plain_values.proofs.Plain.{option_or_parts}
-use Rattle.lane_kernels.specs.declared.numbers.Mode.TheVariants as mode
 use Rattle.lane_kernels.specs.declared.numbers.Op.{Op}
-use Rattle.regent_tree.specs.Accesses.{space_in}
 use Rattle.regent_tree.specs.Execution.{before_last}
 use Rattle.regent_tree.specs.Lookup.{is_bound, type_named}
 use Rattle.regent_tree.specs.Scopes.{Scope}
-use Rattle.regent_tree.specs.StaticTypes.{field_place}
 use Rattle.regent_tree.specs.Syntax.{access_expr, assign_form, at_step, Expression, field_step, Name, no_step, Steps, TaskTree, Tree}
-use Rattle.regent_tree.specs.Typing.{reaches_of, type_of_element, type_of_field}
+use Rattle.regent_tree.specs.Typing.{type_of_element, type_of_field}
 use Rattle.regent_tree.specs.declared.rights.Access.{Access}
 use Rattle.regent_tree.specs.declared.rights.Access.TheVariants.{Reduce, Write}
 use Rattle.regent_tree.specs.declared.statement.How.{How}
@@ -28,9 +25,10 @@ use Rattle.check_rules.specs.declared.rule.Rule.TheVariants as rule
 use Rattle.check_laws.specs.SoundScopes.{IsSoundScope}
 use Rattle.check_laws.proofs.Variables.{target_of_form}
 use Rattle.code_rules.specs.Assignments.{put_code, target_code}
+use Rattle.code_rules.specs.Expressions.{expr_code}
 use Rattle.code_rules.specs.Slots.{bound, own_slot, spare, typed, Where}
 use Rattle.code_rules.specs.Statements.{form_code}
-use Rattle.local_form.specs.LocalForm.{are_fields}
+use Rattle.code_laws.specs.Fields.{are_fields}
 use Rattle.code_laws.specs.Pointers.{IsCounting}
 use Rattle.code_laws.specs.Standing.{Stands}
 use Rattle.code_laws.specs.Steps.{Forms}
@@ -54,7 +52,7 @@ use Rattle.sound_code.proofs.PartElements.{asked_put, element_put, part_certain,
 use Rattle.sound_code.proofs.Through.{may_each, reduces_through, writes_through}
 use Rattle.sound_code.proofs.Told.{Told, ToldForm}
 use Rattle.sound_code.proofs.Wanting.{not_lacking}
-use Rattle.sound_code.proofs.Wholes.{Asks, asks_first, asks_second, assigned_becomes, field_few, HasFew}
+use Rattle.sound_code.proofs.Wholes.{Asks, asks_first, asks_second, assigned_becomes, field_few}
 
 -- ---- what is told
 
@@ -88,7 +86,7 @@ part_aimed tree task s sound scope a n e i f rest lo none lacking =
 
 -- ---- code
 
-none_low : 0 ≤ 0
+pub none_low : 0 ≤ 0
 none_low = omega arith
 
 one_low : 1 ≤ 1
@@ -105,29 +103,41 @@ module _ (g : Program) (t : TaskCode) (k slots : ℕ) (have : HasSlots t slots) 
   abbrev Both : Expression → Expression → Type 0
   Both e i = Asks forms.keeps (is_whole_expression true w e && is_whole_expression true w i)
 
+  abbrev element : Name → Expression → Expression → Expression
+  element n e i = access_expr n (at_step e (at_step i no_step))
+
+  -- the mark that tells of the part in its slot
+  abbrev pub left_mark : (n : Name) (e : Expression) → IsPiece w n e → Mark
+  left_mark n e piece = put_mark g t k slots have forms way w m asked n keeps piece.0 0 none_low
+
+  -- a pointer into a part that is left in its slot
+  pub part_left : (n : Name) (e i : Expression) (us : List Shape) (piece : IsPiece w n e) → IsTyped forms w e × IsCounting (typed w e) →
+      IsTyped forms w i × IsCounting (typed w i) → Both e i → Told way w.tree w.scope (element n e i) → (pc : ℕ) → Stands t.body pc (expr_code w 0 (element n e i)) →
+      Marked g t k (stacked m us) (expr_code w 0 (element n e i)) (stacked (left_mark n e piece) (shape_of (part_element w n e i) ∷ us))
+  part_left n e i us piece first second whole told pc st =
+      let u = (bound w n).static_type in
+      part_put g t k slots have forms way w m asked n keeps piece.0 0 none_low us (shape_of (part_element w n e i) ∷ us) u e i no_step piece.0.partition first.1
+      (λ q s. expr_marked g t k slots have forms way w m asked 0 e us first.0 (asks_first _ _ _ whole) (told_first w.tree w.scope way n e (at_step i no_step) told) q s)
+      (λ q hi s. element_put g t k slots have forms way w m asked n keeps piece.0 0 none_low us _ (type_of_element w.scope u e) i no_step hi piece.2
+      (part_space w n e piece) second.1
+      (λ q s. expr_at g t k slots have forms way w (left_mark n e piece) (asked_put g t k slots have forms way w m asked n keeps piece.0 0 none_low hi) 1 one_low i us
+      second.0 (asks_second _ _ _ whole) (told_second w.tree w.scope way n e i no_step told) q s) (nothing_done g t k _) q s) pc st
+
   -- the code of a target, where what is done behind it is done through the slot of the part
   target_marked : (n : Name) (e i : Expression) (f : Name) (o : How) (us vs : List Shape) (piece : IsPiece w n e) →
-      IsTyped forms w e × IsCounting (typed w e) → IsTyped forms w i × IsCounting (typed w i) → Both e i →
-      Told way w.tree w.scope (access_expr n (at_step e (at_step i no_step))) →
-      ((hi : spare w 0 < length m.slots) →
-      Marked g t k (stacked (put_mark g t k slots have forms way w m asked n keeps piece.0 0 none_low) (shape_of (part_element w n e i) ∷ us))
-      (put_code w (part_element w n e i) (spare w 0) f o) (stacked (put_mark g t k slots have forms way w m asked n keeps piece.0 0 none_low) vs)) → (pc : ℕ) →
+      IsTyped forms w e × IsCounting (typed w e) → IsTyped forms w i × IsCounting (typed w i) → Both e i → Told way w.tree w.scope (element n e i) →
+      ((hi : spare w 0 < length m.slots) → Marked g t k (stacked (left_mark n e piece) (shape_of (part_element w n e i) ∷ us))
+      (put_code w (part_element w n e i) (spare w 0) f o) (stacked (left_mark n e piece) vs)) → (pc : ℕ) →
       Stands t.body pc (target_code w n (at_step e (at_step i (field_step f no_step))) o) →
       Marked g t k (stacked m us) (target_code w n (at_step e (at_step i (field_step f no_step))) o) (stacked m vs)
   target_marked n e i f o us vs piece first second whole told more pc st =
       let u = (bound w n).static_type in
-      let rt = type_of_element w.scope u e in
-      let a = put_mark g t k slots have forms way w m asked n keeps piece.0 0 none_low in
+      let a = left_mark n e piece in
       let hi = put_room g t k slots have forms way w m asked n 0 u e i no_step piece.0.partition pc st.0 in
       put_away g t k slots have forms way w m asked n keeps piece.0 0 none_low us vs _ hi
-      (both g t k
-      (part_put g t k slots have forms way w m asked n keeps piece.0 0 none_low us (shape_of (part_element w n e i) ∷ us) u e i no_step piece.0.partition first.1
-      (λ q s. expr_marked g t k slots have forms way w m asked 0 e us first.0 (asks_first _ _ _ whole) (told_first w.tree w.scope way n e (at_step i no_step) told) q s)
-      (λ q hi s. element_put g t k slots have forms way w m asked n keeps piece.0 0 none_low us _ rt i no_step hi piece.2 (part_space w n e piece) second.1
-      (λ q s. expr_at g t k slots have forms way w a (asked_put g t k slots have forms way w m asked n keeps piece.0 0 none_low hi) 1 one_low i us second.0
-      (asks_second _ _ _ whole) (told_second w.tree w.scope way n e i no_step told) q s) (nothing_done g t k _) q s) pc st.0)
+      (both g t k (part_left n e i us piece first second whole told pc st.0)
       (subst (λ sl. Marked g t k (stacked a (shape_of (part_element w n e i) ∷ us)) (put_code w (part_element w n e i) sl f o) (stacked a vs))
-      (sym (slot_put w 0 u rt (own_slot w u (bound w n).place) piece.0.partition piece.2)) (more hi)))
+      (sym (slot_put w 0 u (type_of_element w.scope u e) (own_slot w u (bound w n).place) piece.0.partition piece.2)) (more hi)))
 
   -- `p[e][i].f = y`
   pub part_set : (n : Name) (e i : Expression) (f : Name) (y : Expression) → IsSetInPart forms w n e i f y → Both e i → Whole y → Told way w.tree w.scope y →

@@ -44,6 +44,7 @@ use Rattle.fit_laws.proofs.Keeping.{set_mark}
 use Rattle.fit_rules.specs.Shapes.{Among, argument, Is, is_number, is_region, own_as, part, region, World}
 use Rattle.fit_rules.specs.Marks.{child_in, Colour, in_slot, lies, Mark, parted, stacked, top_at, topped}
 use Rattle.fit_rules.specs.Fits.{Program}
+use Rattle.sound_code.specs.Places.{IsBehind}
 use Rattle.sound_code.specs.Named.{HasSlots, is_begun, IsOfNumber, is_piece, IsSteadyColour, slot_at, loops_in}
 use Rattle.sound_code.specs.Ways.{by_rules, origin_behind, origin_in, shape_in, Tops, Way, whole_origin}
 use Rattle.sound_code.proofs.ArgumentTypes.{part_parent, part_term}
@@ -178,6 +179,8 @@ module _ (g : Program) (t : TaskCode) (k slots : ℕ) (have : HasSlots t slots) 
         };
         narrower = narrow_set m.slots m.slots slot _ (narrow_itself m.slots) (inl (ready.free slot (omega arith) hi));
         facts = λ l a. inr (inr a);
+        new = λ l a. ⊎_elim (λ e. inr (subst (IsBehind w.params) e (slot_high w.params (length names) ready.low)))
+            (⊎_elim (λ e. inr (subst (IsBehind w.params) e (slot_high w.params (length names) ready.low))) (λ h. inl h)) a;
         scoped = scoped_bound forms.keeps way w.tree w.scope form b refl told asked.scoped (λ all. refl);
         cut = cut_bound forms.keeps way w.tree w.scope form b w.params m.facts fs refl told (λ l a. inr (inr a)) asked.cut
             (λ tops task same d l e.

@@ -1,14 +1,19 @@
 -- The code of tasks of an accepted program is sound by the rules.
-use Rattle.std.proofs.Common.{◌≡◌, ℕ, zero, suc, ◌≤◌, ◌^◌, ℤ, List, [], ◌∷◌, ◌++◌, ◌∙◌, ap, None, Some, false, true, inl, inr, refl, sym, subst}
+use Rattle.std.proofs.Common.{◌≡◌, ℕ, zero, suc, ◌≤◌, ◌^◌, ℤ, pos, map, arith, List, [], ◌∷◌, ◌++◌, ◌∙◌, ap, None, Some, false, true, inl, inr, refl, sym, subst}
 use Rattle.std.specs.List.{list_all}
 use Rattle.std.proofs.lemmas.Bool.{and_parts, false≢true}
+use Rattle.std.proofs.lemmas.Int.{ints}
 use Rattle.std.proofs.lemmas.Option.{none-some, same_Some}
 use Rattle.std.specs.Prelude.{length, slice_get}
+use Rattle.lane_kernels.specs.declared.numbers.Width.{Width}
+use Rattle.lane_kernels.specs.declared.numbers.Width.TheVariants.{W32, W64}
 use Rattle.regent_tree.proofs.Members.{Has}
 use Rattle.regent_tree.specs.declared.facts.Known.{Known}
 use Rattle.regent_tree.specs.StaticTypes.{entry_name, no_task, task_named}
 use Rattle.regent_tree.specs.Syntax.{task_item, TaskTree, Tree}
+use Rattle.check_rules.specs.Acceptance.{input_widths}
 use Rattle.check_rules.specs.Breaches.{breaches}
+use Rattle.code_laws.specs.ScalarPrograms.{AreInputs}
 use Rattle.check_laws.proofs.Bodies.{body_told}
 use Rattle.code_rules.specs.Instructions.{tasks_of}
 use Rattle.code_laws.specs.Handing.{AreTypedBy}
@@ -20,7 +25,8 @@ use Rattle.code_laws.proofs.Typing.{AreKept, kept_behind, kept_left, kept_right}
 use Rattle.regent_tree.specs.Limits.{parts_of_block, parts_of_item, parts_of_items, parts_of_params, parts_of_program, parts_of_type}
 use Rattle.sound_code.proofs.Few.{program_few, task_few}
 use Rattle.sound_code.proofs.Frees.{program_whole}
-use Rattle.code_laws.proofs.LocalRuns.{local_run, local_tasks, plain_run, plain_tasks}
+use Rattle.code_laws.proofs.LocalRuns.{local_run, local_tasks}
+use Rattle.code_laws.proofs.PlainBodies.{plain_run, plain_tasks}
 use Rattle.regent_tree.specs.Scopes.{scope_of}
 use Rattle.code_rules.specs.Pieces.{lines}
 use Rattle.code_rules.specs.Programs.{body_piece, place_of, task_code}
@@ -28,11 +34,11 @@ use Rattle.code_laws.specs.Above.{cut_told, first_told, or_other, whole_of}
 use Rattle.code_laws.specs.Handing.{forms_by, taking_of, told_in}
 use Rattle.code_laws.specs.Steps.{Forms}
 use Rattle.code_laws.specs.Typed.{IsTypedBlock}
-use Rattle.sound_code.specs.Programs.{AcceptedTasksAreSound, HandingTasksAreSound, LocalProgramsAreSound, LocalRunsSoundly, WholeProgramsAreSound, TasksKeepRules, BeginsWell}
+use Rattle.sound_code.specs.Programs.{AcceptedCodeKeepsRules, AcceptedTasksAreSound, HandingTasksAreSound, PlainProgramsAreSound, ProgramRunsSoundly, WholeProgramsAreSound, TasksKeepRules, BeginsWell}
 use Rattle.sound_code.proofs.WholeTasks.{is_whole_program, is_whole_task}
 use Rattle.code_laws.proofs.LocalParams.{pointers_among}
 use Rattle.code_laws.proofs.LocalTrees.{item_stands, task_stands}
-use Rattle.code_laws.specs.LocalPrograms.{IsLocalProgramRun}
+use Rattle.code_laws.specs.AcceptedPrograms.{IsProgramRun}
 use Rattle.sound_code.proofs.Scoped.{is_by_rules, Scoped}
 use Rattle.code_laws.specs.Pointers.{AllGoToParams}
 use Rattle.sound_code.proofs.ScopedNames.{opening_scoped}
@@ -49,12 +55,14 @@ use Rattle.sound_code.proofs.Accepted.{begins_kept, body_without_breach, stands_
 use Rattle.sound_code.proofs.Behind.{after_block_ground}
 use Rattle.sound_code.proofs.Grounds.{IsTold, tells_apart, tells_begun, tells_made, tells_part, tells_within}
 use Rattle.sound_code.proofs.Entries.{named_there}
-use Rattle.sound_code.proofs.Openings.{all, all_marked, all_sound, begins_well, opened}
+use Rattle.sound_code.proofs.OfTree.{began_so, of_tree}
+use Rattle.sound_code.proofs.Openings.{all, all_marked, all_sound, all_treated, begins_well, opened}
 use Rattle.sound_code.proofs.InOrder.{never_breaks, run_keeps_all, sound_code}
 use Rattle.regent_tree.specs.Typing.{param_types, result_type}
 use Rattle.code_laws.specs.Programs.{IsGiven}
 use Rattle.fit_rules.specs.Fits.{Program}
 use Rattle.sound_code.proofs.Tasks.{bare, HasMarks, marks_of, treat}
+use Rattle.expression_laws.specs.WrittenStatements.{AreWrittenTasks, IsWrittenBlock}
 
 abbrev way : Tops → Way
 way tops = by_rules tops no_task
@@ -75,11 +83,13 @@ module _ (tree : Tree) (tops : Tops) (given : (k : ℕ) (t : TaskTree) → slice
   tasks_keep_rules = record {
     program = g;
     code = refl;
+    of_tree = of_tree tree tops marks (all_treated tree (way tops) marks_at);
     sound = all_sound tree (way tops) marks_at;
     all = sound_code tree g refl given (λ k. refl) (all_sound tree (way tops) marks_at);
     segments = λ k t there. never_breaks _ _ _ (all_sound tree (way tops) marks_at k t there);
     opens = λ k t there x args turns depth few are told. opened tree (way tops) marks (all_marked tree (way tops) marks_at) k t there x args turns depth few
         (subst (λ ss. Are (called x args) ss args) (lows_same tops t (length t.params) (param_types tree t) (params_low tree t)) are) told;
+    began = λ k t there x b f. began_so tree g (of_tree tree tops marks (all_treated tree (way tops) marks_at)) k t there x x.args f.machine.beside.begins;
     begins = well;
     runs = λ forms. run_keeps_all tree g refl given (λ k. refl) (all_sound tree (way tops) marks_at) forms (well forms);
   }
@@ -149,25 +159,25 @@ pub handing_tasks_are_sound : HandingTasksAreSound
 handing_tasks_are_sound tree none typed = plain_handing tree none typed
 
 -- by the run of such tasks
-begun_soundly : (forms : Forms) (tree : Tree) (inputs : List ℤ) → TasksKeepRules tree → IsTypedRun forms tree inputs → LocalRunsSoundly tree inputs
+begun_soundly : (forms : Forms) (tree : Tree) (inputs : List ℤ) → TasksKeepRules tree → IsTypedRun forms tree inputs → ProgramRunsSoundly tree inputs
 begun_soundly forms tree inputs tasks run = record {
   tasks = tasks;
   first = λ turns few. tasks.begins forms inputs turns run few;
   runs = λ turns few. tasks.runs forms inputs turns run few;
 }
 
-pub local_programs_are_sound : LocalProgramsAreSound
-local_programs_are_sound tree inputs p = begun_soundly (forms_by true false tree (task_named tree (entry_name tree))) tree inputs
+pub plain_programs_are_sound : PlainProgramsAreSound
+plain_programs_are_sound tree inputs p = begun_soundly (forms_by true false tree (task_named tree (entry_name tree))) tree inputs
     (handing_tasks_are_sound tree p.run.accepted (plain_tasks tree inputs p)) (plain_run tree inputs p)
 
 -- in an accepted program the pointers of parameters go to parameters, and partitions are of such
-local_goals : (tree : Tree) (inputs : List ℤ) → IsLocalProgramRun tree inputs → (k : ℕ) (t : TaskTree) → slice_get (tasks_of tree) k ≡ Some t →
+local_goals : (tree : Tree) (inputs : List ℤ) → IsProgramRun tree inputs → (k : ℕ) (t : TaskTree) → slice_get (tasks_of tree) k ≡ Some t →
     AllGoToParams (scope_of tree t).names
 local_goals tree inputs p k t at =
     let s = task_stands tree k t at in pointers_among tree t p.accepted p.within (item_stands tree s.0 s.1 t s.2)
 
 -- within the limits of a text its pointers' types name few regions
-module _ (tree : Tree) (inputs : List ℤ) (p : IsLocalProgramRun tree inputs) where
+module _ (tree : Tree) (inputs : List ℤ) (p : IsProgramRun tree inputs) where
   items_kept : AreKept (parts_of_items tree)
   items_kept = let every = kept_all (parts_of_program tree) p.within.each in λ q h. every q (inr (inr h))
 
@@ -180,9 +190,27 @@ module _ (tree : Tree) (inputs : List ℤ) (p : IsLocalProgramRun tree inputs) w
       task_few tree items_kept (forms_by true true tree t) t (kept_left (parts_of_params t.params) behind all)
       (kept_right (parts_of_type t.result) (parts_of_block t.body) (kept_right (parts_of_params t.params) behind all)) (local_tasks tree inputs p k t at).typed
 
+written_bodies : (tree : Tree) → AreWrittenTasks tree → (k : ℕ) (t : TaskTree) → slice_get (tasks_of tree) k ≡ Some t → IsWrittenBlock t.body
+written_bodies tree written k t at =
+    let i = task_stands tree k t at in written t (item_stands tree i.0 i.1 t i.2)
+
 pub whole_programs_are_sound : WholeProgramsAreSound
 whole_programs_are_sound tree inputs p = begun_soundly (forms_by true true tree (task_named tree (entry_name tree))) tree inputs
-    (handing tree p.run.accepted (local_tasks tree inputs p.run)
-    (program_few tree (items_kept tree inputs p.run) (local_few tree inputs p.run)
-    (program_whole tree (λ t. forms_by true true tree t) (λ t. refl) (λ k t at. (local_tasks tree inputs p.run k t at).typed) p.fields))
-    (local_goals tree inputs p.run)) (local_run tree inputs p.run)
+    (handing tree p.accepted (local_tasks tree inputs p)
+    (program_few tree (items_kept tree inputs p) (local_few tree inputs p)
+    (program_whole tree (λ t. forms_by true true tree t) (λ t. refl) (λ k t at. (local_tasks tree inputs p k t at).typed) (written_bodies tree p.written)))
+    (local_goals tree inputs p)) (local_run tree inputs p)
+
+-- there are inputs of any widths
+abbrev zeros : (ws : List Width) → List ℤ
+zeros ws = map (λ w. pos 0) ws
+
+zeros_fit : (ws : List Width) → AreInputs ws (zeros ws)
+zeros_fit [] = tt
+zeros_fit (W32 ∷ ws) = (omega (arith, ints), zeros_fit ws)
+zeros_fit (W64 ∷ ws) = (omega (arith, ints), zeros_fit ws)
+
+-- so that nothing hangs on them
+pub accepted_code_keeps_rules : AcceptedCodeKeepsRules
+accepted_code_keeps_rules tree p =
+    (whole_programs_are_sound tree (zeros (input_widths tree)) (record { within = p.within; accepted = p.accepted; written = p.written; numbers = zeros_fit (input_widths tree) })).tasks

@@ -14,7 +14,7 @@ use Rattle.fit_rules.specs.Marks.{in_slot, LiesAt}
 use Rattle.fit_rules.proofs.Points.{counted_points}
 use Rattle.sound_code.specs.Programs.{argument_shapes, AreConstrained, TasksKeepRules}
 use Rattle.sound_code.specs.RulesExample.{HistogramIsSound, one_root, raise, raise_args, rules_program, RulesExampleHolds}
-use Rattle.sound_code.proofs.Rules.{accepted_tasks_are_sound, local_programs_are_sound}
+use Rattle.sound_code.proofs.Rules.{accepted_tasks_are_sound, plain_programs_are_sound}
 use Rattle.machine_terms.specs.Pointers.{region_in}
 use Rattle.std.specs.Prelude.{slice_get}
 
@@ -96,4 +96,4 @@ rules_example_holds = record {
 }
 
 pub histogram_is_sound : HistogramIsSound
-histogram_is_sound = let kept = local_example_holds.kept in local_programs_are_sound local_program (pos 5 ∷ []) (record { run = kept.run; plain = kept.plain })
+histogram_is_sound = plain_programs_are_sound local_program (pos 5 ∷ []) local_example_holds.plain

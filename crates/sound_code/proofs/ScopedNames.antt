@@ -15,7 +15,8 @@ use Rattle.code_rules.specs.Slots.{bound, typed, Where}
 use Rattle.code_laws.specs.Pointers.{a_pointer_type, AllGoToParams, AreThere, GoToParams, GoesToParams, Begins, begins_plain, begins_pointer, BeginsItself, IsPointer, itself_null, itself_plain}
 use Rattle.code_laws.specs.Simple.{a_region_type, IsRegion, IsSimple, simple_index, simple_integer, simple_space, simple_truth}
 use Rattle.code_laws.specs.Steps.{Forms}
-use Rattle.code_laws.specs.Typed.{element_field, field_behind, IsKeepable, IsOwnRegion, IsPointing, IsTyped}
+use Rattle.code_laws.specs.Typed.{element_field, field_behind, IsKeepable, IsOwnRegion, IsPartElement, IsPointing, IsTyped, part_element}
+use Rattle.code_laws.proofs.PartTypes.{a_part_pointer, IsPartPointer, part_pointer}
 use Rattle.code_laws.proofs.Wider.{into_simple, keepable, zero_simple}
 use Rattle.sound_code.specs.Ways.{all_made, by_rules, Way}
 use Rattle.sound_code.proofs.Scoped.{Aims, aims_there, AreScoped, IsScoped, pointer_aims, Scoped, scoped_named, scoped_with}
@@ -70,9 +71,17 @@ module _ (forms : Forms) (w : Where) (all : AreScoped w.scope.names w.scope.name
       there (typed w (access_expr n (at_step e (at_step i (field_step f rest))))) h
   pointing_aims _ p h f = absurd h
 
+  -- an element of a part goes into that
+  part_aims : (u : StaticType) (own sp : ℕ) → IsPartPointer u own sp → Aims w.scope.names (space_in u) (reaches_of u)
+  part_aims _ _ _ (a_part_pointer k sp args own c) = tt
+
+  element_aims : (e : Expression) → IsPartElement e → IsTyped forms w e → Aims w.scope.names (space_in (typed w e)) (reaches_of (typed w e))
+  element_aims (access_expr n (at_step e (at_step i no_step))) p f = part_aims (part_element w n e i) _ _ (part_pointer w n e i f.1)
+  element_aims _ p f = absurd p
+
   pub begun_scoped : (b : Bool) (e : Expression) (n : ℕ) → IsKeepable b w e → IsTyped forms w e → IsScoped w.scope.names n (owned w.scope.next (typed w e))
   begun_scoped b e n k f = ⊎_elim (owned_simple w.scope.names n w.scope.next (typed w e))
-      (λ p. owned_pointer w.scope.names n w.scope.next (typed w e) p.0 (pointing_aims e p.0 p.1 f)) (keepable b w e k)
+      (λ p. owned_pointer w.scope.names n w.scope.next (typed w e) p.0 (⊎_elim (λ q. pointing_aims e p.0 q f) (λ q. element_aims e q f) p.1)) (keepable b w e k)
 
 pub said_scoped : (bs : List Bound) (n : ℕ) (t u : StaticType) → Begins bs t u → IsScoped bs n u
 said_scoped bs n t u (begins_plain _ _ g) = simple_scoped bs n u (into_simple t u g)

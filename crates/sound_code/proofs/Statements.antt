@@ -38,6 +38,7 @@ use Rattle.marked_code.specs.Marked.{leads_back, leads_making, typed_op, typed_b
 use Rattle.fit_laws.proofs.Keeping.{get_other, get_set, set_mark}
 use Rattle.sound_code.proofs.Plain.{plain_in}
 use Rattle.sound_code.proofs.Counting.{null_fits}
+use Rattle.sound_code.specs.Places.{AreMore}
 use Rattle.sound_code.specs.Named.{slot_at, HasSlots, IsNumbered, Ready, Narrower, loops_in}
 use Rattle.sound_code.proofs.WholeTasks.{are_whole_arguments, is_whole_expression}
 use Rattle.sound_code.specs.Ways.{Way, shape_in, shape_of}
@@ -101,13 +102,14 @@ module _ (g : Program) (t : TaskCode) (k : ℕ) (keeps : Bool) (way : Way) (tree
     pub ready : Ready way params bs next
     pub narrower : Narrower next.slots m.slots
     pub facts : AtLeast m.facts next.facts
+    pub new : AreMore params m.facts next.facts
     pub scoped : Scoped keeps way bs
     pub cut : Cut keeps way tree params next.facts bs
 
   -- a statement after which all is as before
   pub unchanged : (params : ℕ) (bs : List Bound) (m : Mark) (p : Piece) → Ready way params bs m → Scoped keeps way bs →
       Cut keeps way tree params m.facts bs → Marked g t k (stacked m []) p (stacked m []) → Followed params bs m p
-  unchanged params bs m p r o c f = record { next = m; is = f; ready = r; narrower = narrow_itself m.slots; facts = λ l a. a; scoped = o; cut = c }
+  unchanged params bs m p r o c f = record { next = m; is = f; ready = r; narrower = narrow_itself m.slots; facts = λ l a. a; new = λ l a. inl a; scoped = o; cut = c }
 
   -- a block that begins and ends in the same scope
   pub closed_block : (params : ℕ) (bs : List Bound) (m : Mark) (p : Piece) → Followed params bs m p →
@@ -184,6 +186,7 @@ module _ (g : Program) (t : TaskCode) (k slots : ℕ) (have : HasSlots t slots) 
         ready = named_more way w.params w.scope.names m (new_name n u) r hi refl numbered none;
         narrower = narrow_set m.slots m.slots s _ (narrow_itself m.slots) (inl (r.free s (omega arith) hi));
         facts = λ l a. a;
+        new = λ l a. inl a;
         scoped = scoped;
         cut = cut;
       }

@@ -36,9 +36,11 @@ use Rattle.sound_code.proofs.Grounds.{Ground, HasFacts}
 use Rattle.sound_code.proofs.Steady.{steady_below}
 use Rattle.sound_code.proofs.Told.{ToldBlock}
 use Rattle.sound_code.proofs.Parameters.{opening_numbered, params_low}
-use Rattle.sound_code.proofs.Asked.{Hands, opening_mark, other, Known, upto_before, upto_end}
+use Rattle.sound_code.specs.Marks.{opening_mark}
+use Rattle.sound_code.proofs.Asked.{Hands, other, Known, upto_before, upto_end}
 use Rattle.code_laws.proofs.Told.{block_grows}
 use Rattle.sound_code.proofs.Blocks.{block_marked}
+use Rattle.sound_code.proofs.Stops.{Stops}
 use Rattle.sound_code.proofs.Calling.{opening_steady, types_many}
 use Rattle.marked_code.proofs.Firsts.{begins_with}
 use Rattle.marked_code.specs.Bodies.{MarksAt}
@@ -133,6 +135,7 @@ module _ (tree : Tree) (way : Way) where
     code = code_of tree;
     positions = λ sp f. regions_listed (field_term tree sp f);
     results = λ k. shape_of (result_type tree (task_at k).result);
+    begins = λ k. first_of (task_at k);
     marks = λ k pc. first_of (task_at k);
   }
 
@@ -145,6 +148,7 @@ module _ (tree : Tree) (way : Way) where
     positions = λ sp f. refl;
     results = λ k t e. ap (λ y. shape_of (result_type tree y.result)) (is_at k t e);
     begins = λ k u e. ap first_of (is_at k u e) ∙ ap (λ y. opening_mark y tree u) (sym (other_same way t u));
+    first = λ k u e x vs st s. s;
   }
 
   -- marks of a task's body, and of the place behind it
@@ -153,6 +157,7 @@ module _ (tree : Tree) (way : Way) where
     pub last : Mark
     pub are : ms ≡ front ++ last ∷ []
     pub typed : Typed bare (task_code tree t) k (first_of t) (block_code (place_of tree t) t.body) front last
+    pub stops : Stops bare (task_code tree t) k (other way t) tree (length t.params) (first_of t).facts (place_of tree t) t.body 0 front last
     pub small : length (task_code tree t).body ≤ 2 ^ 32
 
   pub record HasMarks (k : ℕ) (t : TaskTree) : Type 0 where
@@ -184,8 +189,8 @@ module _ (tree : Tree) (way : Way) where
         upto = upto_before (other way t) tree _ _ (block_grows tree (scope_of tree t) t.body) (upto_end way tree t);
       }) told (upto_end way tree t) 0 (stands_alone (body_piece tree t) small).0 in
       record {
-        marks = f.is.marks ++ stacked f.next [] ∷ [];
-        treated = record { front = f.is.marks; last = stacked f.next []; are = refl; typed = f.is.is; small = small };
+        marks = f.done.is.marks ++ stacked f.done.next [] ∷ [];
+        treated = record { front = f.done.is.marks; last = stacked f.done.next []; are = refl; typed = f.done.is.is; stops = f.stops; small = small };
       }
 
   -- ---- the program with its marks

@@ -3,16 +3,17 @@ use Rattle.std.proofs.Common.{[], ◌∷◌, pos, refl, arith}
 use Rattle.std.proofs.lemmas.Int.{ints}
 use Rattle.regent_tree.specs.Limits.{parts_of_program, WithinLimits}
 use Rattle.code_laws.proofs.LocalExample.{all_keep}
-use Rattle.sound_code.specs.Programs.{IsWholeProgramRun}
 use Rattle.worked_examples.specs.Pointers.{circuit_program}
 use Rattle.sound_code.specs.WholeExample.{CircuitIsSound, follows_program, WholeExampleHolds}
 use Rattle.sound_code.proofs.Rules.{whole_programs_are_sound}
+use Rattle.code_laws.proofs.WrittenForms.{program_written}
+use Rattle.code_laws.specs.AcceptedPrograms.{IsProgramRun}
 
 within : WithinLimits follows_program
 within = record { each = all_keep (parts_of_program follows_program) refl; nodes = omega (arith) }
 
-run : IsWholeProgramRun follows_program (pos 2 ∷ [])
-run = record { run = record { within = within; accepted = refl; local = refl; numbers = (omega (arith, ints), tt) }; fields = refl }
+run : IsProgramRun follows_program (pos 2 ∷ [])
+run = record { within = within; accepted = refl; written = program_written follows_program refl; numbers = (omega (arith, ints), tt) }
 
 pub whole_example_holds : WholeExampleHolds
 whole_example_holds = record { run = run; sound = whole_programs_are_sound follows_program (pos 2 ∷ []) run }
@@ -20,8 +21,8 @@ whole_example_holds = record { run = run; sound = whole_programs_are_sound follo
 circuit_within : WithinLimits circuit_program
 circuit_within = record { each = all_keep (parts_of_program circuit_program) refl; nodes = omega (arith) }
 
-circuit_run : IsWholeProgramRun circuit_program []
-circuit_run = record { run = record { within = circuit_within; accepted = refl; local = refl; numbers = tt }; fields = refl }
+circuit_run : IsProgramRun circuit_program []
+circuit_run = record { within = circuit_within; accepted = refl; written = program_written circuit_program refl; numbers = tt }
 
 pub circuit_is_sound : CircuitIsSound
 circuit_is_sound = record { run = circuit_run; sound = whole_programs_are_sound circuit_program [] circuit_run }

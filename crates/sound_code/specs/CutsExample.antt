@@ -8,7 +8,8 @@ use Rattle.regent_tree.specs.declared.program.Grant.TheVariants.{Reads}
 use Rattle.regent_tree.specs.declared.types.Kind.TheVariants.{Int1d}
 use Rattle.regent_tree.specs.declared.types.NumberTerm.TheVariants.{Index, Int64}
 use Rattle.worked_examples.specs.Words.{access, at, both, by_field, calc, call, dot, each, either, equal, field_space, fields, fill, get, grants, image, int, item, line, new_region, number, param, partition, preimage, region, set, space, space_of, task, var, var_as, var_from}
-use Rattle.sound_code.specs.Programs.{IsWholeProgramRun, LocalRunsSoundly}
+use Rattle.sound_code.specs.Programs.{ProgramRunsSoundly}
+use Rattle.code_laws.specs.AcceptedPrograms.{IsProgramRun}
 
 --     fspace f { x : int64, to : int1d }
 --     task look(r : region(ispace(int1d), f), s : region(ispace(int1d), f), p : partition(disjoint, s))
@@ -63,5 +64,5 @@ cuts_program =
 
 -- each premise of the law holds of it, and so it runs soundly
 pub record CutsExampleHolds : Type 0 where
-  pub run : IsWholeProgramRun cuts_program (pos 2 ∷ [])
-  pub sound : LocalRunsSoundly cuts_program (pos 2 ∷ [])
+  pub run : IsProgramRun cuts_program (pos 2 ∷ [])
+  pub sound : ProgramRunsSoundly cuts_program (pos 2 ∷ [])

@@ -22,7 +22,7 @@ use Rattle.code_laws.specs.HandingExample.{handing_program}
 use Rattle.fit_rules.specs.Shapes.{World}
 use Rattle.fit_rules.specs.Ends.{called}
 use Rattle.fit_rules.specs.Fits.{BeforeFits}
-use Rattle.sound_code.specs.Programs.{LocalRunsSoundly, TasksKeepRules}
+use Rattle.sound_code.specs.Programs.{ProgramRunsSoundly, TasksKeepRules}
 use Rattle.sound_code.specs.RulesExample.{one_root}
 
 --     fspace f { x : int64 }
@@ -94,4 +94,4 @@ pub record HandsExampleHolds : Type 0 where
 
 -- so is the accepted one of code_laws, by its text alone
 abbrev pub HandedIsSound : Type 0
-HandedIsSound = LocalRunsSoundly handing_program (pos 2 ∷ [])
+HandedIsSound = ProgramRunsSoundly handing_program (pos 2 ∷ [])

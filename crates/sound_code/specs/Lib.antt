@@ -1,6 +1,7 @@
 pub mod Ways
 pub mod Named
-pub mod FilledFields
+pub mod Places
+pub mod Marks
 pub mod Programs
 pub mod Example
 pub mod RulesExample
@@ -9,3 +10,4 @@ pub mod WholeExample
 pub mod CutsExample
 pub mod SiblingsExample
 pub mod PiecesExample
+pub mod MiddleExample

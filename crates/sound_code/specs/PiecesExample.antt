@@ -10,7 +10,8 @@ use Rattle.regent_tree.specs.declared.program.Clause.TheVariants as clause
 use Rattle.regent_tree.specs.declared.program.Grant.TheVariants.{Reads, Writes}
 use Rattle.regent_tree.specs.declared.types.NumberTerm.TheVariants.{Int64}
 use Rattle.worked_examples.specs.Words.{access, at, call, dot, each, equal, field_space, fields, fill, get, grants, int, item, line, new_region, number, param, partition, reduce, region, space, space_of, task, var, var_as, var_from}
-use Rattle.sound_code.specs.Programs.{IsWholeProgramRun, LocalRunsSoundly}
+use Rattle.sound_code.specs.Programs.{ProgramRunsSoundly}
+use Rattle.code_laws.specs.AcceptedPrograms.{IsProgramRun}
 
 --     fspace f { x : int64 }
 --     task raise(a : region(ispace(int1d), f)) where reads writes(a.x) do
@@ -108,5 +109,5 @@ pieces_program =
 
 -- each premise of the law holds of it, and so it runs soundly
 pub record PiecesExampleHolds : Type 0 where
-  pub run : IsWholeProgramRun pieces_program (pos 2 ∷ [])
-  pub sound : LocalRunsSoundly pieces_program (pos 2 ∷ [])
+  pub run : IsProgramRun pieces_program (pos 2 ∷ [])
+  pub sound : ProgramRunsSoundly pieces_program (pos 2 ∷ [])

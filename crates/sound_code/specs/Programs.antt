@@ -1,5 +1,6 @@
 -- Compiled code is sound, and the frames that open in it fit.
 use Rattle.std.specs.Prelude.{◌≡◌, ◌≢◌, ℕ, ◌<◌, ◌^◌, ℤ, List, [], length, map, Bool, false, true, Some, slice_get, None}
+use Rattle.regent_tree.specs.Limits.{WithinLimits}
 use Rattle.regent_tree.specs.StaticTypes.{entry_name, task_named}
 use Rattle.regent_tree.specs.Syntax.{TaskTree, Tree}
 use Rattle.regent_tree.specs.Typing.{param_types}
@@ -23,7 +24,7 @@ use Rattle.fit_runs.specs.Runs.{BeginsFitting, Comes, IsSoundCode}
 use Rattle.code_rules.specs.Instructions.{place_of_task, tasks_of}
 use Rattle.code_rules.specs.Programs.{code_of, task_code}
 use Rattle.code_laws.specs.Handing.{AreTypedBy}
-use Rattle.code_laws.specs.LocalPrograms.{IsLocalProgramRun, IsPlainProgramRun}
+use Rattle.code_laws.specs.AcceptedPrograms.{IsProgramRun, IsPlainProgramRun}
 use Rattle.code_laws.specs.Programs.{AreTypedTasks, IsTypedRun, call_forms, job_of, region_forms, scalar_forms}
 use Rattle.code_laws.specs.ScalarPrograms.{IsScalarProgramRun}
 use Rattle.code_laws.specs.Simple.{IsSimple}
@@ -34,8 +35,9 @@ use Rattle.fit_rules.specs.Fits.{BeforeFits, Covers, Fits, Program}
 use Rattle.fit_rules.specs.Sound.{IsSound}
 use Rattle.fit_laws.specs.Segments.{PassesTest}
 use Rattle.check_rules.specs.Breaches.{breaches}
+use Rattle.expression_laws.specs.WrittenStatements.{AreWrittenTasks}
 use Rattle.fit_rules.specs.Marks.{Holds}
-use Rattle.sound_code.specs.FilledFields.{names_fields}
+use Rattle.sound_code.specs.Marks.{IsOfTree}
 use Rattle.sound_code.specs.Ways.{by_rules, none_begun, opening_facts, shape_in, shape_of}
 
 -- the entry task's code
@@ -144,18 +146,22 @@ argument_shapes tree t = map (shape_in (by_rules none_begun t) (length t.params)
 abbrev pub AreConstrained : Tree → TaskTree → List Value → Type 0
 AreConstrained tree t args = Each (λ f. Holds f args) (opening_facts (by_rules none_begun t) tree t)
 
--- The code of each task is sound and so never breaks, and 0 is one of its results. The frame of a task fits when it opens
--- with any values of its parameters' types, regions among them, of which its constraints hold, around any roots, at any
--- depth and with any turns; its run begins well, and in order it keeps all.
+-- With marks that are the tree's the code of each task is sound and so never breaks, and 0 is one of its results. The frame of a task
+-- fits when it opens with any values of its parameters' types, regions among them, of which its constraints hold, around any roots, at
+-- any depth and with any turns; and what fits, at any place of the code, began with such arguments. Its run begins well, and in order it
+-- keeps all.
 pub record TasksKeepRules (tree : Tree) : Type 0 where
   pub program : Program
   pub code : program.code ≡ code_of tree
+  pub of_tree : IsOfTree tree program
   pub sound : (k : ℕ) (t : TaskTree) → slice_get (tasks_of tree) k ≡ Some t → IsSound program (task_code tree t) k
   pub all : IsSoundCode program
   pub segments : (k : ℕ) (t : TaskTree) → slice_get (tasks_of tree) k ≡ Some t → NeverBreaks program (task_code tree t) k
   pub opens : (k : ℕ) (t : TaskTree) → slice_get (tasks_of tree) k ≡ Some t → (x : World) (args : List Value) (turns depth : ℕ) →
       turns < 2 ^ 64 → Are (called x args) (argument_shapes tree t) args → AreConstrained tree t args →
       Fits program (called x args) (task_code tree t) k (opening_machine turns depth k (task_code tree t) args)
+  pub began : (k : ℕ) (t : TaskTree) → slice_get (tasks_of tree) k ≡ Some t → (x : World) (b : Before) → BeforeFits program x (task_code tree t) k b →
+      Are (called x x.args) (argument_shapes tree t) x.args × AreConstrained tree t x.args
   pub begins : (forms : Forms) → BeginsWell forms tree program
   pub runs : (forms : Forms) → RunsKeepAll forms tree program
 
@@ -168,23 +174,28 @@ AcceptedTasksAreSound = (tree : Tree) → breaches tree ≡ [] → AreTypedTasks
 abbrev pub HandingTasksAreSound : Type 0
 HandingTasksAreSound = (tree : Tree) → breaches tree ≡ [] → AreTypedBy true false tree → TasksKeepRules tree
 
--- An accepted program whose tasks hand regions over by name and have no pointers, and numbers that fit its inputs: the
+-- an accepted program as the reader gives it, whatever its inputs
+pub record IsAcceptedProgram (tree : Tree) : Type 0 where
+  pub within : WithinLimits tree
+  pub accepted : breaches tree ≡ []
+  pub written : AreWrittenTasks tree
+
+-- The code of each such program keeps the rules: from every state that fits it, a segment keeps all. No inputs are asked for.
+abbrev pub AcceptedCodeKeepsRules : Type 0
+AcceptedCodeKeepsRules = (tree : Tree) → IsAcceptedProgram tree → TasksKeepRules tree
+
+-- An accepted program, and numbers that fit its inputs: the
 -- code of each task is sound, frames of its tasks fit when they open, and so does the one in which its run begins; and
 -- each segment of its run in order keeps all.
-pub record LocalRunsSoundly (tree : Tree) (inputs : List ℤ) : Type 0 where
+pub record ProgramRunsSoundly (tree : Tree) (inputs : List ℤ) : Type 0 where
   pub tasks : TasksKeepRules tree
   pub first : (turns : ℕ) → turns < 2 ^ 64 → Fits tasks.program (first_world inputs) (entry_code tree) (entry_place tree)
       (record { frame = first_frame (job_of tree inputs turns) (entry_code tree); parts = [] })
   pub runs : (turns : ℕ) → turns < 2 ^ 64 → RunKeepsAll tree tasks.program inputs turns
 
-abbrev pub LocalProgramsAreSound : Type 0
-LocalProgramsAreSound = (tree : Tree) (inputs : List ℤ) → IsPlainProgramRun tree inputs → LocalRunsSoundly tree inputs
+abbrev pub PlainProgramsAreSound : Type 0
+PlainProgramsAreSound = (tree : Tree) (inputs : List ℤ) → IsPlainProgramRun tree inputs → ProgramRunsSoundly tree inputs
 
--- one of the whole local form, whose fills each name a field, as those of a text do
-pub record IsWholeProgramRun (tree : Tree) (inputs : List ℤ) : Type 0 where
-  pub run : IsLocalProgramRun tree inputs
-  pub fields : names_fields tree ≡ true
-
--- so it is of each such program
+-- so it is of each accepted program
 abbrev pub WholeProgramsAreSound : Type 0
-WholeProgramsAreSound = (tree : Tree) (inputs : List ℤ) → IsWholeProgramRun tree inputs → LocalRunsSoundly tree inputs
+WholeProgramsAreSound = (tree : Tree) (inputs : List ℤ) → IsProgramRun tree inputs → ProgramRunsSoundly tree inputs

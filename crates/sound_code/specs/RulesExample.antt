@@ -21,7 +21,7 @@ use Rattle.code_laws.specs.Programs.{AreTypedTasks}
 use Rattle.fit_rules.specs.Shapes.{anything, World}
 use Rattle.fit_rules.specs.Ends.{called}
 use Rattle.fit_rules.specs.Fits.{BeforeFits}
-use Rattle.sound_code.specs.Programs.{LocalRunsSoundly, TasksKeepRules}
+use Rattle.sound_code.specs.Programs.{ProgramRunsSoundly, TasksKeepRules}
 
 --     fspace f { x : int64 }
 --     task raise(r : region(ispace(int1d), f), q : region(ispace(int1d), f), n : int64)
@@ -75,7 +75,7 @@ raise_before = record {
 
 -- a histogram whose tasks keep their regions to themselves runs soundly
 abbrev pub HistogramIsSound : Type 0
-HistogramIsSound = LocalRunsSoundly local_program (pos 5 ∷ [])
+HistogramIsSound = ProgramRunsSoundly local_program (pos 5 ∷ [])
 
 -- No rule is breached and all tasks are typed, so that the code of each is sound. The frame of the task that takes
 -- regions fits when it opens, and its first segment ends where it wants the field that it reads.

@@ -9,7 +9,8 @@ use Rattle.regent_tree.specs.declared.program.Clause.TheVariants as clause
 use Rattle.regent_tree.specs.declared.program.Grant.TheVariants.{Reads, Writes}
 use Rattle.regent_tree.specs.declared.types.NumberTerm.TheVariants.{Int64}
 use Rattle.worked_examples.specs.Words.{access, apart, at, calc, call, call_of, dot, each, equal, field_space, fields, fill, get, give, grants, int, item, line, new_region, number, param, reduce, region, space, space_of, task, task_giving, var_from}
-use Rattle.sound_code.specs.Programs.{IsWholeProgramRun, LocalRunsSoundly}
+use Rattle.sound_code.specs.Programs.{ProgramRunsSoundly}
+use Rattle.code_laws.specs.AcceptedPrograms.{IsProgramRun}
 
 --     fspace f { x : int64 }
 --     task next(n : int64) : int64 return n + 1 end
@@ -55,5 +56,5 @@ siblings_program =
 
 -- each premise of the law holds of it, and so it runs soundly
 pub record SiblingsExampleHolds : Type 0 where
-  pub run : IsWholeProgramRun siblings_program (pos 2 ∷ [])
-  pub sound : LocalRunsSoundly siblings_program (pos 2 ∷ [])
+  pub run : IsProgramRun siblings_program (pos 2 ∷ [])
+  pub sound : ProgramRunsSoundly siblings_program (pos 2 ∷ [])

@@ -11,7 +11,8 @@ use Rattle.regent_tree.specs.declared.types.Kind.TheVariants.{Int1d}
 use Rattle.regent_tree.specs.declared.types.NumberTerm.TheVariants.{Index, Int64}
 use Rattle.worked_examples.specs.Words.{access, at, calc, call, compare, dot, each, equal, field_space, fields, fill, get, grants, int, item, line, new_region, number, param, pointer, points_into, reduce, ref, region, set, space, space_of, task, var, var_as, var_from, when}
 use Rattle.worked_examples.specs.Pointers.{circuit_program}
-use Rattle.sound_code.specs.Programs.{IsWholeProgramRun, LocalRunsSoundly}
+use Rattle.sound_code.specs.Programs.{ProgramRunsSoundly}
+use Rattle.code_laws.specs.AcceptedPrograms.{IsProgramRun}
 
 --     fspace f { x : int64, next : int1d }
 --     task follow(r : region(ispace(int1d), f), p : int1d(f, r))
@@ -84,9 +85,9 @@ follows_program =
 
 -- each premise of the law holds of it, and so it runs soundly
 pub record WholeExampleHolds : Type 0 where
-  pub run : IsWholeProgramRun follows_program (pos 2 ∷ [])
-  pub sound : LocalRunsSoundly follows_program (pos 2 ∷ [])
+  pub run : IsProgramRun follows_program (pos 2 ∷ [])
+  pub sound : ProgramRunsSoundly follows_program (pos 2 ∷ [])
 
 pub record CircuitIsSound : Type 0 where
-  pub run : IsWholeProgramRun circuit_program []
-  pub sound : LocalRunsSoundly circuit_program []
+  pub run : IsProgramRun circuit_program []
+  pub sound : ProgramRunsSoundly circuit_program []

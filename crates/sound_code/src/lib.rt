@@ -6,9 +6,10 @@
 ghost use Rattle.sound_code.specs.CutsExample.{CutsExampleHolds};
 ghost use Rattle.sound_code.specs.Example.{CodeExampleHolds};
 ghost use Rattle.sound_code.specs.HandingExample.{HandedIsSound, HandsExampleHolds};
+ghost use Rattle.sound_code.specs.MiddleExample.{MiddleExampleHolds};
 ghost use Rattle.sound_code.specs.PiecesExample.{PiecesExampleHolds};
 ghost use Rattle.sound_code.specs.RulesExample.{HistogramIsSound, RulesExampleHolds};
-ghost use Rattle.sound_code.specs.Programs.{AcceptedTasksAreSound, CallsAreSound, HandingTasksAreSound, LocalProgramsAreSound, RegionTasksAreSound, ScalarProgramsAreSound, ScalarTasksAreSound, WholeProgramsAreSound};
+ghost use Rattle.sound_code.specs.Programs.{AcceptedCodeKeepsRules, AcceptedTasksAreSound, CallsAreSound, HandingTasksAreSound, PlainProgramsAreSound, RegionTasksAreSound, ScalarProgramsAreSound, ScalarTasksAreSound, WholeProgramsAreSound};
 ghost use Rattle.sound_code.specs.SiblingsExample.{SiblingsExampleHolds};
 ghost use Rattle.sound_code.specs.WholeExample.{CircuitIsSound, WholeExampleHolds};
 
@@ -48,19 +49,26 @@ pub fn code_that_hands_regions_is_sound()
     ensures { HandingTasksAreSound }
 {}
 
-/// So is the code of each accepted program whose tasks hand regions over by name and have no pointers, without any premise
-/// on types, and the frame in which its run begins fits, with any turns.
-#[tactic(auto, using(crate::proofs::Rules::local_programs_are_sound))]
-pub fn local_programs_are_sound()
-    ensures { LocalProgramsAreSound }
+/// So is the code of each accepted program whose tasks keep no pointers and no partitions, without any
+/// premise on types, and the frame in which its run begins fits, with any turns.
+#[tactic(auto, using(crate::proofs::Rules::plain_programs_are_sound))]
+pub fn plain_programs_are_sound()
+    ensures { PlainProgramsAreSound }
 {}
 
-/// So is the code of each accepted program of the local form whose fills each name a field: indices and
-/// pointers are kept, handed over and had in fields, through pointers fields are read, written and reduced, loops go over regions and
+/// So is the code of each accepted program as the reader gives it: indices and pointers are kept, handed over and had in fields, through pointers fields are read, written and reduced, loops go over regions and
 /// parts of partitions, partitions are made, also of others, and handed over, as their parts are, and variables begin as parts.
 #[tactic(auto, using(crate::proofs::Rules::whole_programs_are_sound))]
 pub fn whole_programs_are_sound()
     ensures { WholeProgramsAreSound }
+{}
+
+/// Of each accepted program as the reader gives it, with no inputs at all: there are marks that are the tree's by which the code
+/// of each task is sound, so that from every state that fits, a segment's touches, calls and partitions are as declared, it isn't
+/// a machine fault, and what it leaves fits again.
+#[tactic(auto, using(crate::proofs::Rules::accepted_code_keeps_rules))]
+pub fn accepted_code_keeps_rules()
+    ensures { AcceptedCodeKeepsRules }
 {}
 
 /// A program with roots and calls of which each premise holds, and a run that begins in it.
@@ -111,4 +119,12 @@ pub fn siblings_example_holds()
 #[tactic(auto, using(crate::proofs::PiecesExample::pieces_example_holds))]
 pub fn pieces_example_holds()
     ensures { PiecesExampleHolds }
+{}
+
+/// In the middle of the code of an accepted program, within a loop, with two parts held, of which one is a reduction's, a state
+/// fits, whichever marks the law gives; and states that differ from it in one thing each don't, at least one for each point of
+/// what fits.
+#[tactic(auto, using(crate::proofs::MiddleExample::middle_example_holds))]
+pub fn middle_example_holds()
+    ensures { MiddleExampleHolds }
 {}

@@ -1,4 +1,4 @@
-use Rattle.std.proofs.Common.{ℕ, Option, subst, sym}
+use Rattle.std.proofs.Common.{Option, subst, sym}
 use Rattle.command_words.specs.Given.{command_given, texts}
 use Rattle.regent_run.specs.Verdicts.{Says}
 use Rattle.regent_run.specs.Words.{Request, request_given}

@@ -1,5 +1,5 @@
 use Rattle.std.proofs.Common.{◌≡◌, true, subst, sym}
-use Rattle.code_laws.specs.LocalPrograms.{IsEnded}
+use Rattle.code_laws.specs.AcceptedPrograms.{IsEnded}
 use Rattle.regent_tree.specs.declared.outcome.Outcome.{Outcome}
 use Rattle.run_report.specs.Dumps.{fits_spaces}
 use Rattle.regent_run.proofs.Meant.{plan_ends, plan_fits, same_outcome}

@@ -1,5 +1,0 @@
-use Rattle.regent_tree.proofs.Rows.{steps_of_vec}
-use Rattle.local_form.proofs.giving.is_pointing.Goals as goal
-
-pub returns-in-Access : goal.returns-in-Access
-returns-in-Access c = rw (c.in-Access.is, steps_of_vec c.in-Access.steps, ← c.as_slice.ensures.value) c.access_is_pointing.ensures

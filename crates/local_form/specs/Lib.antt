@@ -1,4 +1,0 @@
-pub mod Expressions
-pub mod LocalForm
-pub mod Marks
-pub mod Seen
