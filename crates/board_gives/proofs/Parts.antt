@@ -2,32 +2,21 @@
 use Rattle.std.specs.Prelude.{◌==◌, ◌&&◌, ◌||◌, nat_lt, not}
 use Rattle.std.specs.List.{list_all}
 use Rattle.std.proofs.Common.{◌≡◌, ◌<◌, ◌+◌, ◌++◌, ◌∙◌, ℕ, zero, suc, Bool, true, false, List, [], ◌∷◌, ap, arith, drop, get_or, length, refl, sym}
-use Rattle.std.proofs.lemmas.Bool.{and_parts, both_ways, lt-ltb, ltb-true}
+use Rattle.std.proofs.lemmas.Bool.{and_from, and_parts, and_right, both_ways, false_from_ne_true, lt-ltb, ltb-true}
 use Rattle.std.proofs.Math.Numerals.{add-one}
 use Rattle.std.proofs.Math.Seq.{drop-cons}
 use Rattle.std.proofs.lemmas.List.{append_assoc}
 use Rattle.std.proofs.lemmas.List.Folds.{list_all_at}
-use Rattle.plain_values.specs.Points.{has, meets, within}
-use Rattle.point_sets.proofs.Rising.{meets_at, within_each}
+use Rattle.plain_values.specs.Points.{has, within}
+use Rattle.point_sets.proofs.Rising.{within_each}
 use Rattle.region_tree.specs.Refusals.{AreWithin, FirstOutside, FirstShared}
 use Rattle.region_tree.specs.Sharing.{AreDisjoint, set_of_colour}
 use Rattle.region_tree.specs.Trees.{RegionTree, IsRegion, is_region, node_at, root_at}
 use Rattle.machine_terms.specs.Makes.{are_apart, is_sound}
+use Rattle.machine_terms.proofs.ApartSets.{all_by, apart_by, sharing_not_apart}
 use Rattle.machine_terms.specs.declared.value.RegionValue.{RegionValue}
 use Rattle.region_tree.specs.declared.tree.RootId.{RootId}
 use Rattle.board_terms.specs.Makes.{children_from, is_here, region_at}
-
-and_both : (a b : Bool) → a ≡ true → b ≡ true → (a && b) ≡ true
-and_both true b e f = f
-and_both false b e f = e
-
-and_false : (a b : Bool) → b ≡ false → (a && b) ≡ false
-and_false true b e = e
-and_false false b e = refl
-
-not_true : (b : Bool) → (b ≡ true → ⊥) → b ≡ false
-not_true true f = absurd (f refl)
-not_true false f = refl
 
 -- ---- regions that are there
 
@@ -37,7 +26,7 @@ here_is t r i =
     ∙ ap (λ (b : Bool). b && (root_at t r.node.0 == r.root.0)) i.kind
 
 pub not_here : (t : RegionTree) (r : RegionValue) → (IsRegion t r.node.0 → ⊥) → is_here t r ≡ false
-not_here t r n = not_true (is_here t r) (λ e. n (there e))
+not_here t r n = false_from_ne_true (is_here t r) (λ e. n (there e))
   where
     there : is_here t r ≡ true → IsRegion t r.node.0
     there e =
@@ -49,23 +38,13 @@ not_here t r n = not_true (is_here t r) (λ e. n (there e))
 
 -- ---- sets that are sound
 
-all_by : (p : List ℕ → Bool) (xs : List (List ℕ)) → ((c : ℕ) → c < length xs → p (get_or xs c []) ≡ true) → list_all p xs ≡ true
-all_by p [] f = refl
-all_by p (x ∷ xs) f = and_both (p x) (list_all p xs) (f 0 (omega arith)) (all_by p xs (λ c b. f (suc c) (omega (arith, b))))
-
-apart_by : (sets : List (List ℕ)) → AreDisjoint sets → are_apart sets ≡ true
-apart_by [] d = refl
-apart_by (s ∷ ss) d = and_both (list_all (λ t. not (meets s t)) ss) (are_apart ss)
-    (all_by (λ t. not (meets s t)) ss (λ c b. ap not (d 0 (suc c) (omega arith) (omega (arith, b)))))
-    (apart_by ss (λ i j l b. d (suc i) (suc j) (omega (arith, l)) (omega (arith, b))))
-
 where_disjoint : (disjoint apart : Bool) → (disjoint ≡ true → apart ≡ true) → (not disjoint || apart) ≡ true
 where_disjoint true apart f = f refl
 where_disjoint false apart f = refl
 
 pub made_sound : (points : List ℕ) (sets : List (List ℕ)) (disjoint : Bool) → AreWithin points sets → (disjoint ≡ true → AreDisjoint sets) →
     is_sound points sets disjoint ≡ true
-made_sound points sets disjoint w d = and_both (list_all (λ s. within s points) sets) (not disjoint || are_apart sets)
+made_sound points sets disjoint w d = and_from (list_all (λ s. within s points) sets) (not disjoint || are_apart sets)
     (all_by (λ s. within s points) sets w) (where_disjoint disjoint (are_apart sets) (λ e. apart_by sets (d e)))
 
 -- ---- sets that are not
@@ -73,19 +52,10 @@ made_sound points sets disjoint w d = and_both (list_all (λ s. within s points)
 pub leaving_unsound : (points : List ℕ) (sets : List (List ℕ)) (disjoint : Bool) (colour point : ℕ) → FirstOutside points sets colour point →
     is_sound points sets disjoint ≡ false
 leaving_unsound points sets disjoint colour point f =
-    let out : within (set_of_colour sets colour) points ≡ false = not_true (within (set_of_colour sets colour) points)
+    let out : within (set_of_colour sets colour) points ≡ false = false_from_ne_true (within (set_of_colour sets colour) points)
     (λ e. both_ways (has points point) f.leaves.outside
     (within_each (set_of_colour sets colour) points e point f.leaves.in_set)) in
     ap (λ (b : Bool). b && (not disjoint || are_apart sets)) (list_all_at (λ s. within s points) sets colour [] f.below out)
-
-not_apart : (sets : List (List ℕ)) (a b : ℕ) → a < b → b < length sets → meets (set_of_colour sets a) (set_of_colour sets b) ≡ true →
-    are_apart sets ≡ false
-not_apart [] a b l h m = absurd (omega (arith, h))
-not_apart (s ∷ ss) a zero l h m = absurd (omega (arith, l))
-not_apart (s ∷ ss) zero (suc b) l h m =
-    ap (λ (c : Bool). c && are_apart ss) (list_all_at (λ t. not (meets s t)) ss b [] (omega (arith, h)) (ap not m))
-not_apart (s ∷ ss) (suc a) (suc b) l h m =
-    and_false (list_all (λ t. not (meets s t)) ss) (are_apart ss) (not_apart ss a b (omega (arith, l)) (omega (arith, h)) m)
 
 neither : (disjoint apart : Bool) → disjoint ≡ true → apart ≡ false → (not disjoint || apart) ≡ false
 neither true apart e f = f
@@ -94,11 +64,8 @@ neither false apart e f = sym e
 pub sharing_unsound : (points : List ℕ) (sets : List (List ℕ)) (disjoint : Bool) (a b point : ℕ) → disjoint ≡ true →
     FirstShared sets a b point → is_sound points sets disjoint ≡ false
 sharing_unsound points sets disjoint a b point d f =
-    let both : (has (set_of_colour sets a) point && has (set_of_colour sets b) point) ≡ true =
-    and_both (has (set_of_colour sets a) point) (has (set_of_colour sets b) point) f.shared.in_first f.shared.in_second in
-    and_false (list_all (λ s. within s points) sets) (not disjoint || are_apart sets)
-    (neither disjoint (are_apart sets) d
-    (not_apart sets a b f.shared.order f.shared.below (meets_at (set_of_colour sets a) (set_of_colour sets b) point both)))
+    and_right (list_all (λ s. within s points) sets) (not disjoint || are_apart sets)
+    (neither disjoint (are_apart sets) d (sharing_not_apart sets a b point f.shared))
 
 -- ---- regions by colour
 

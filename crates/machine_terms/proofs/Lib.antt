@@ -9,3 +9,4 @@ pub mod Fuel
 pub mod Ending
 pub mod Kept
 pub mod Tops
+pub mod ApartSets

@@ -84,7 +84,7 @@ pub fn make(
             sets,
             disjoint,
         } => {
-            if is_sound(region.points.get(), sets.as_slice(), disjoint) {
+            if is_sound(alloc, region.points.get(), sets.as_slice(), disjoint)? {
                 let after = make_partition(alloc, region, sets, disjoint, instance)?;
                 Ok(Resumed::GoesOn(after))
             } else {

@@ -1,22 +1,34 @@
 //! Whether partitions may be made, and roots that are closed.
 
-ghost use Rattle.std.specs.Prelude.{◌≡◌, IfOk, not};
+ghost use Rattle.std.specs.Prelude.{◌≡◌, IfOk};
 ghost use Rattle.std.specs.List.{list_all};
-ghost use Rattle.plain_values.specs.Points.{meets, within};
+ghost use Rattle.plain_values.specs.Points.{within};
 ghost use Rattle.machine_terms.specs.Contents.{closed, is_among};
 ghost use Rattle.machine_terms.specs.Makes.{are_apart, is_sound};
 
 use machine_terms::{Contents, Root};
 use plain_values::Sequence;
 use point_sets::PointSet;
-use region_tree::RootId;
+use region_tree::{RootId, least_shared};
 use std::alloc::{AllocError, Global};
 
-/// Whether sets lie in a region, and are apart where they are said to be.
-pub fn is_sound(parent: &PointSet, sets: &[PointSet], disjoint: bool) -> bool
-    ensures { result ≡ is_sound parent.now sets.now disjoint }
+/// Whether sets lie in a region, and are apart where they are said to be. It fails for want of memory alone.
+pub fn is_sound(
+    alloc: Global,
+    parent: &PointSet,
+    sets: &[PointSet],
+    disjoint: bool,
+) -> Result<bool, AllocError>
+    ensures { IfOk result (λ sound. sound ≡ is_sound parent.now sets.now disjoint) }
 {
-    lie_within(parent, sets) && (!disjoint || are_apart(sets))
+    if !lie_within(parent, sets) {
+        return Ok(false);
+    }
+    if disjoint {
+        are_apart(alloc, sets)
+    } else {
+        Ok(true)
+    }
 }
 
 fn lie_within(parent: &PointSet, sets: &[PointSet]) -> bool
@@ -31,26 +43,13 @@ fn lie_within(parent: &PointSet, sets: &[PointSet]) -> bool
 }
 
 /// Whether no two of these sets share a point.
-fn are_apart(sets: &[PointSet]) -> bool
-    ensures { result ≡ are_apart sets.now }
+fn are_apart(alloc: Global, sets: &[PointSet]) -> Result<bool, AllocError>
+    ensures { IfOk result (λ apart. apart ≡ are_apart sets.now) }
 {
-    for place in 0..sets.len() {
-        if !is_apart(&sets[place], &sets[place + 1..]) {
-            return false;
-        }
+    match least_shared(alloc, sets)? {
+        None => Ok(true),
+        Some(_) => Ok(false),
     }
-    true
-}
-
-fn is_apart(set: &PointSet, others: &[PointSet]) -> bool
-    ensures { result ≡ list_all (λ t. not (meets set.now t)) others.now }
-{
-    for other in others {
-        if set.meets(other) {
-            return false;
-        }
-    }
-    true
 }
 
 /// The contents without these roots.

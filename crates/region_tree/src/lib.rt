@@ -28,4 +28,5 @@ pub use piece::{Part, Piece};
 pub use required::Required;
 pub use required_part::part_of;
 pub use required_within::are_within;
+pub use sweep::least_shared;
 pub use tree::{OpNumber, RootId, Tree};

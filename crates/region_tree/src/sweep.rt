@@ -1,6 +1,6 @@
 //! Points that several sets share, found by a sweep over the stretches of all sets in order.
 
-ghost use Rattle.std.specs.Prelude.{◌≡◌, ◌≢◌, ◌↔◌, IsTrue, ◌<◌, ◌^◌, ℕ, All, IfOk, IfSome, OnOk};
+ghost use Rattle.std.specs.Prelude.{◌≡◌, ◌≢◌, ◌↔◌, IsTrue, ◌<◌, ℕ, All, IfOk, IfSome, OnOk};
 ghost use Rattle.std.specs.Prelude.{cond, length, nat_lt};
 ghost use Rattle.std.specs.List.Sorted.{IsNonDecreasingBy};
 ghost use Rattle.region_tree.specs.Sharing.{AreDisjoint, AreFound, AreSharing, IsFound};
@@ -14,12 +14,12 @@ use std::alloc::{AllocError, Global};
 pub struct Span {
     pub first: u32,
     pub end: u32,
-    pub colour: u32,
+    pub colour: usize,
 }
 
-/// The least point that two of the sets share.
+/// The least point that two of the sets share, if any. It sorts the stretches of all sets, so its time
+/// doesn't grow with the square of their number. It fails for want of memory alone.
 pub fn least_shared(alloc: Global, sets: &[PointSet]) -> Result<Option<u32>, AllocError>
-    requires { length sets.now < 2 ^ 32 }
     ensures none { IfOk result (λ r. r ≡ None → AreDisjoint sets.now) }
     ensures some { IfOk result (λ r. IfSome r (λ z.
         (a : ℕ) × (b : ℕ) × AreSharing sets.now a b z)) }
@@ -32,21 +32,19 @@ pub fn least_shared(alloc: Global, sets: &[PointSet]) -> Result<Option<u32>, All
 
 /// The stretches of all sets, by colour.
 fn all_spans(alloc: Global, sets: &[PointSet]) -> Result<Vec<Span>, AllocError>
-    requires { length sets.now < 2 ^ 32 }
     ensures spans { IfOk result (λ v. All (IsSpan sets.now) v.items) }
     ensures found { IfOk result (λ v. (colour : ℕ)
         → colour < length sets.now → AreFound sets.now v.items colour) }
 {
     let mut spans = Vec::new(alloc);
-    let count = sets.len() as u32;
-    for colour in 0..count {
+    for colour in 0..sets.len() {
         add_spans(&mut spans, sets, colour)?;
     }
     Ok(spans)
 }
 
 /// Adds the stretches of the set of a colour.
-fn add_spans(spans: &mut Vec<Span>, sets: &[PointSet], colour: u32) -> Result<(), AllocError>
+fn add_spans(spans: &mut Vec<Span>, sets: &[PointSet], colour: usize) -> Result<(), AllocError>
     requires colours { colour < length sets.now }
     requires spans { All (IsSpan sets.now) spans.old.items }
     ensures spans { OnOk result (All (IsSpan sets.now) spans.new.items) }
@@ -54,7 +52,7 @@ fn add_spans(spans: &mut Vec<Span>, sets: &[PointSet], colour: u32) -> Result<()
     ensures kept { OnOk result ((other z : ℕ)
         → IsFound spans.old.items other z → IsFound spans.new.items other z) }
 {
-    let set = &sets[colour as usize];
+    let set = &sets[colour];
     let mut from = 0;
     while let Some(stretch) = set.stretch_from(from) {
         let span = Span {
