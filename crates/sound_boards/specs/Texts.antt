@@ -1,6 +1,5 @@
 -- Of the programs that texts spell, with nothing asked of their trees but that no rule is breached.
 use Rattle.std.specs.Prelude.{◌≡◌, ◌≢◌, ℕ, ℤ, List, Ok, []}
-use Rattle.regent_tree.specs.Limits.{WithinLimits}
 use Rattle.regent_tree.specs.Syntax.{Tree}
 use Rattle.regent_reader.specs.Texts.{Reads}
 use Rattle.machine_terms.specs.declared.outcome.Yield.TheVariants as yield
@@ -14,17 +13,15 @@ use Rattle.code_laws.specs.ScalarPrograms.{AreInputs}
 use Rattle.sound_code.specs.Programs.{ProgramRunsSoundly, TasksKeepRules}
 use Rattle.sound_boards.specs.Boards.{BoardsKeepAll, OfAllBoards, OfEachOut}
 
--- a text that spells an accepted program within the limits, and numbers that fit its inputs
+-- a text that spells an accepted program, and numbers that fit its inputs
 pub record IsTextRun (text : List ℕ) (tree : Tree) (inputs : List ℤ) : Type 0 where
   pub reads : Reads text (Ok tree)
-  pub within : WithinLimits tree
   pub accepted : breaches tree ≡ []
   pub numbers : AreInputs (input_widths tree) inputs
 
 -- such a text, whatever its inputs
 pub record IsAcceptedText (text : List ℕ) (tree : Tree) : Type 0 where
   pub reads : Reads text (Ok tree)
-  pub within : WithinLimits tree
   pub accepted : breaches tree ≡ []
 
 -- From every state that fits the code of its tree a segment keeps all, with marks that are the tree's. No inputs are asked for.

@@ -2,3 +2,4 @@ pub mod Writings
 pub mod Expressions
 pub mod Statements
 pub mod Texts
+pub mod Within
