@@ -1,9 +1,10 @@
 //! Programs that are accepted.
 
-ghost use Rattle.std.specs.Prelude.{◌≡◌, IfNone, IfSome, None, Some};
+ghost use Rattle.std.specs.Prelude.{◌≡◌, IfNone, IfSome, None, Some, []};
 ghost use Rattle.regent_tree.specs.PlainProgram.{tree_of};
 ghost use Rattle.check_rules.specs.Acceptance.{IsAccepted, input_widths};
-ghost use Rattle.check_rules.specs.launches.Shapes.{nth_on, shape_on};
+ghost use Rattle.check_rules.specs.Breaches.{breaches};
+ghost use Rattle.check_rules.specs.launches.Shapes.{loops, nth_on, shape_on};
 
 use crate::loop_shape::LoopShape;
 use index_launch::LaunchShape;
@@ -61,6 +62,14 @@ impl Accepted {
         ensures { result.now ≡ input_widths (tree_of self.now) }
     {
         self.inputs.as_slice()
+    }
+
+    /// The shapes of all loops, in the order of the text, of a program that keeps the rules.
+    pub fn loops(&self) -> &[LoopShape]
+        ensures all { result.now ≡ loops (tree_of self.now) }
+        ensures sound { breaches (tree_of self.now) ≡ [] }
+    {
+        self.loops.as_slice()
     }
 
     /// The shape of a loop: of the nth `for` that begins on a line, counted from 0 in the order of the text.

@@ -272,12 +272,13 @@ module _ (code : Code) (turns : ℕ) where
           (numbered_run G M k p N i g q ws d u).result ≡ spent → ⊥
       on q ws d u w = more e n t p N i g q ws d u found needs (omega (arith, room)) (omega (arith, deep, fx.depth)) w
 
-      calls_done : (xs : List (Call G)) (q : List (Element G)) → AllGood f.depth xs → nat_lt f.depth 64 ≡ true →
+      calls_done : (xs : List (Call G)) (q : List (Element G)) →
+          ((d : ℕ) (u : Map G) → (children_run G M (numbered_run G M k) p N (length vs) xs d u).result ≡ spent → ⊥) →
           ((y : Machine) → Passed x.frame y.frame → Within code t.body n y) →
           (go_run G M (numbered_run G M k) p N i vs g q (calls xs) c m).result ≡ spent → ⊥
-      calls_done xs q h shallow w = bind_done (children_run G M (numbered_run G M k) p N (length vs) xs)
+      calls_done xs q children w = bind_done (children_run G M (numbered_run G M k) p N (length vs) xs)
           (λ ws. numbered_run G M k p N i g [] (vs ++ ws)) c _
-          (children_done xs h shallow (length vs) c _)
+          (children c _)
           (λ ws d u. on [] (vs ++ ws) d u (w (here g []) passed))
 
       -- behind a making
@@ -301,8 +302,11 @@ module _ (code : Code) (turns : ℕ) where
 
       by_yield : (y : Yield) (q : List (Element G)) → IsAsked y x → AfterStop (Within code t.body n) y x →
           (go_run G M (numbered_run G M k) p N i vs (last_frame f (frame_after y x.frame)) q (yield_out code turns f y) c m).result ≡ spent → ⊥
-      by_yield (yield.Calls cs) q wanted w = calls_done (map (called code turns f.depth) cs) q (all_good f.depth cs)
-          (ap (λ d. nat_lt d 64) (sym fx.depth) ∙ w.0) w.1
+      by_yield (yield.Calls []) q wanted w = calls_done [] q (λ d u e. absurd cc) w.1
+      by_yield (yield.Calls (o ∷ cs)) q wanted w = calls_done (map (called code turns f.depth) (o ∷ cs)) q
+          (children_done (map (called code turns f.depth) (o ∷ cs)) (all_good f.depth (o ∷ cs))
+          (ap (λ d. nat_lt d 64) (sym fx.depth) ∙ w.0) (length vs))
+          w.1
       by_yield (yield.Want r h) q wanted w =
           let more_parts = q ++ filled G (M c) ((M c).wanted N (record { root = r.0; field = h })) m in
           on more_parts vs c m (w (here g more_parts) passed (asks_seen f x.frame)

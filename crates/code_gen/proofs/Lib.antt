@@ -1,2 +1,4 @@
 pub mod Bodies
+pub mod Codes
 pub mod OfItems
+pub mod Shapes

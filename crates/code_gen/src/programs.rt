@@ -4,10 +4,12 @@ ghost use Rattle.std.specs.Prelude.{◌≡◌, IfOk, map};
 ghost use Rattle.regent_tree.specs.PlainProgram.{item_tree_of, task_of, tree_of};
 ghost use Rattle.regent_tree.specs.StaticTypes.{entry_name};
 ghost use Rattle.code_rules.specs.Instructions.{place_of_task, tasks_of};
-ghost use Rattle.code_rules.specs.Programs.{code_of, task_code};
 ghost use Rattle.compile_types.specs.Symbols.{named_tasks};
+ghost use Rattle.code_gen.specs.Shaped.{code_by, codes_by};
 
 use crate::tasks::task_code;
+use check_rules::LoopShape;
+use compile_statements::Shapes;
 use compile_tables::spaces_of_program;
 use compile_types::Symbols;
 use plain_values::Sequence;
@@ -20,14 +22,15 @@ use task_code::{Code, TaskCode};
 fn code_of_tasks(
     alloc: Global,
     symbols: &Symbols,
+    shapes: &mut Shapes,
     tasks: &[&Task],
 ) -> Result<Sequence<TaskCode>, AllocError>
     ensures { IfOk result (λ codes. codes
-        ≡ map (task_code (tree_of symbols.now)) (map task_of (named_tasks tasks.now))) }
+        ≡ codes_by shapes.old (tree_of symbols.now) (map task_of (named_tasks tasks.now))) }
 {
     let mut codes = Sequence::new(alloc);
     for task in tasks {
-        let code = task_code(alloc, symbols, task)?;
+        let code = task_code(alloc, symbols, shapes, task)?;
         codes.push(code)?;
     }
     Ok(codes)
@@ -54,13 +57,13 @@ fn start_of(alloc: Global, symbols: &Symbols) -> Result<u32, AllocError>
     symbols.place_of_task(&name)
 }
 
-/// The code of a program, by the tables of its names.
+/// The code of a program, by the tables of its names and the shapes of its loops.
 #[tactic(auto, using(crate::proofs::OfItems::tasks_of_items))]
-fn code_by(alloc: Global, symbols: &Symbols) -> Result<Code, AllocError>
-    ensures { IfOk result (λ code. code ≡ code_of (tree_of symbols.now)) }
+fn code_by(alloc: Global, symbols: &Symbols, shapes: &mut Shapes) -> Result<Code, AllocError>
+    ensures { IfOk result (λ code. code ≡ code_by shapes.old (tree_of symbols.now)) }
 {
     let start = start_of(alloc, symbols)?;
-    let tasks = code_of_tasks(alloc, symbols, symbols.tasks())?;
+    let tasks = code_of_tasks(alloc, symbols, shapes, symbols.tasks())?;
     let spaces = spaces_of_program(alloc, symbols.tables().program())?;
     Ok(Code {
         tasks,
@@ -69,10 +72,11 @@ fn code_by(alloc: Global, symbols: &Symbols) -> Result<Code, AllocError>
     })
 }
 
-/// The code of a program.
-pub fn code_of(alloc: Global, program: &Program) -> Result<Code, AllocError>
-    ensures { IfOk result (λ code. code ≡ code_of (tree_of program.now)) }
+/// The code of a program, by the shapes of its loops.
+pub fn code_of(alloc: Global, program: &Program, loops: &[LoopShape]) -> Result<Code, AllocError>
+    ensures { IfOk result (λ code. code ≡ code_by loops.now (tree_of program.now)) }
 {
     let symbols = Symbols::new(alloc, program)?;
-    code_by(alloc, &symbols)
+    let mut shapes = Shapes::new(loops);
+    code_by(alloc, &symbols, &mut shapes)
 }

@@ -68,7 +68,7 @@ use Rattle.code_laws.proofs.Besides.{beside_roots}
 -- ---- arguments
 
 -- values are the same where roots have their numbers
-same_value : (c d : Contents) → ((r : ℕ) → number_at c r ≡ number_at d r) → (v : Value) → machine_value c v ≡ machine_value d v
+pub same_value : (c d : Contents) → ((r : ℕ) → number_at c r ≡ number_at d r) → (v : Value) → machine_value c v ≡ machine_value d v
 same_value c d same (a_number w z) = refl
 same_value c d same (a_truth b) = refl
 same_value c d same (an_index z) = refl
@@ -81,7 +81,7 @@ same_value c d same (a_partition q) = ap (λ n. machine.Partition (record {
   children = map (region_with n) q.sets;
 })) (same q.root)
 
-same_values : (c d : Contents) → ((r : ℕ) → number_at c r ≡ number_at d r) → (vs : List Value) → map (machine_value c) vs ≡ map (machine_value d) vs
+pub same_values : (c d : Contents) → ((r : ℕ) → number_at c r ≡ number_at d r) → (vs : List Value) → map (machine_value c) vs ≡ map (machine_value d) vs
 same_values c d same [] = refl
 same_values c d same (v ∷ vs) =
     ap (λ m. m ∷ map (machine_value c) vs) (same_value c d same v) ∙ ap (λ ms. machine_value d v ∷ ms) (same_values c d same vs)
@@ -131,7 +131,7 @@ module _ (x : Setting) (params slots : ℕ) (fit : SlotsFit x slots) {deep : ℕ
       ∙ ap (λ u. calling place line u m) (takes_all c vs st)
 
   -- the instance that has called, before the child's end
-  abbrev calls_out : ℕ → ℕ → List MachineValue → Instance → Instance
+  abbrev pub calls_out : ℕ → ℕ → List MachineValue → Instance → Instance
   calls_out n pc st i = record i {
     frame = record i.frame {
       turns = n;
@@ -158,7 +158,7 @@ module _ (x : Setting) (params slots : ℕ) (fit : SlotsFit x slots) {deep : ℕ
       ∙ ap (λ d. on_resumed (after_call (x.child (begun (opening x.turns (suc d) place t ms) ns i.contents)) i) (λ k. resumes.GoesOn k)) e
 
   -- an instance agrees behind a call that came back
-  agrees_after : (h : Here) (s : State) (i : Instance) (n pc : ℕ) (st : List MachineValue)
+  pub agrees_after : (h : Here) (s : State) (i : Instance) (n pc : ℕ) (st : List MachineValue)
       (after : Store) (text : List ℕ) (z : ℤ) (own : List RootId) (c : Contents) →
       Agrees x params slots aside h s i → i.frame.turns ≡ suc n → SameRoots s.store (take (length s.store) after) →
       KeepsNumbers h.tree after → StandFor x.code c [] after → AreOwn (numbers (give_parts i.parts i.contents)) own c →

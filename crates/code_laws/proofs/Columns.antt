@@ -26,6 +26,7 @@ use Rattle.memory_laws.specs.Places.{number_at}
 use Rattle.memory_laws.specs.Touches.{Covers, IsCovered}
 use Rattle.memory_laws.proofs.Finding.{covered_is_found}
 use Rattle.memory_laws.proofs.Touching.{found_is_read, found_tells}
+use Rattle.machine_terms.proofs.StepKinds.{is_launch}
 use Rattle.code_laws.specs.Steps.{Leads, Setting, machine_of, on_step, placed}
 use Rattle.code_laws.specs.Standing.{Stands}
 use Rattle.code_laws.proofs.Touching.{parted, touches}
@@ -71,7 +72,7 @@ module _ (x : Setting) (i : Instance) (place f : ℕ) (store : Store) where
 
   -- an instruction that reads a field at each of these points goes on with the store's numbers
   pub columns : (pc line : ℕ) (st : List MachineValue) (ins : Instr) (xs : List ℕ) (T : Instance → Type 0)
-      (k : Machine → List ℤ → Bool → Stepped) → Holds x.code store (memory_of i) → ((p : ℕ) → has xs p ≡ true → MayRead p) →
+      (k : Machine → List ℤ → Bool → Stepped) → is_launch ins ≡ false → Holds x.code store (memory_of i) → ((p : ℕ) → has xs p ≡ true → MayRead p) →
       Stands x.body pc (op ins line) →
       ((ps : List Part) → act x.code x.body ins line (machine_of (placed pc st (parted ps i)))
       ≡ on_column (machine_of (placed pc st (parted ps i))) (region_with root xs) f (k (machine_of (placed pc st (parted ps i))))) →
@@ -81,9 +82,9 @@ module _ (x : Setting) (i : Instance) (place f : ℕ) (store : Store) where
       ≡ k (machine_of (placed pc st (parted ps i))) (map (read_at store place f) xs) (are_pointers (kind_of x.code i.contents root f) xs) →
       T (placed pc st (parted ps i))) →
       T (placed pc st i)
-  columns pc line st ins [] T k h e stands by before more = more i.parts h (by i.parts)
-  columns pc line st ins (n ∷ xs) T k h e stands by before more =
-      touches x i pc line place f n st ins mode.Read store T h (e n (has_head n xs)) stands
+  columns pc line st ins [] T k alone h e stands by before more = more i.parts h (by i.parts)
+  columns pc line st ins (n ∷ xs) T k alone h e stands by before more =
+      touches x i pc line place f n st ins mode.Read store T alone h (e n (has_head n xs)) stands
       (λ miss. let m = machine_of (placed pc st i) in
       ap (on_step x (placed pc st i)) (by i.parts
       ∙ ap (λ b. with_column (column_found b (part_of i.parts root f) (n ∷ xs)) root f m (k m)) miss))

@@ -49,6 +49,7 @@ use Rattle.code_rules.specs.Expressions.{steps_code}
 use Rattle.code_rules.specs.Instructions.{load_code}
 use Rattle.code_rules.specs.Pieces.{op, ◌⨟◌}
 use Rattle.code_rules.specs.Slots.{own_slot, slot, slot_named}
+use Rattle.machine_terms.proofs.StepKinds.{is_launch}
 use Rattle.code_laws.specs.Arguments.{IsParent}
 use Rattle.code_laws.specs.Pointers.{IsCut, IsPointed}
 use Rattle.code_laws.specs.Simple.{IsPartition, IsRegion, IsSpace, a_partition_type, a_space_type}
@@ -57,7 +58,7 @@ use Rattle.code_laws.specs.Steps.{Setting, machine_of, on_step, placed}
 use Rattle.code_laws.proofs.Accesses.{region_there}
 use Rattle.code_laws.proofs.Good.{Gives, pushes, valued}
 use Rattle.code_laws.proofs.Reaching.{a_region_there, region_lies_in}
-use Rattle.code_laws.proofs.Runs.{ends_by, leads_by}
+use Rattle.code_laws.proofs.Runs.{ends_alone, leads_by}
 use Rattle.code_laws.proofs.Touching.{parted}
 use Rattle.code_laws.proofs.Values.{named}
 
@@ -156,7 +157,7 @@ module _ (x : Setting) (params slots : ℕ) (fit : SlotsFit x slots) {deep : ℕ
   -- ---- with a colour space on the stack
 
   -- of the region of a name; too large a colour space is a fault
-  pub coloured_runs : (h : Here) (from : StaticType) (v : Value) (r : Name) (t : StaticType) (ins : Instr)
+  pub coloured_runs : (h : Here) (from : StaticType) (v : Value) (r : Name) (t : StaticType) (ins : Instr) → is_launch ins ≡ false →
       (acts : Machine → RegionValue → ℕ → List MachineValue → Stepped) (makes : ℕ → Region → Run Value) (s : State) (pc : ℕ) (i : Instance) →
       IsSpace from → IsOf from v → (q : NamedRegion h (bound_to h.scope.names r) s i) → Agrees x params slots aside h s i →
       Stands x.body pc (op ins h.line) →
@@ -167,7 +168,7 @@ module _ (x : Setting) (params slots : ℕ) (fit : SlotsFit x slots) {deep : ℕ
       Comes x (placed pc (machine.Space n ∷ []) i) (valued (suc pc) []) (GoodCut h t) (makes n q.region s)) →
       Comes x (valued pc [] v i) (valued (suc pc) []) (GoodCut h t)
       (and_then (colours h v s) (λ n. λ s1. and_then (region_named h r s1) (λ a. makes n a)))
-  coloured_runs h _ _ r t ins acts makes s pc i (a_space_type kind) (of_space _ size small) q g f is more = by (nat_le size 65536) refl
+  coloured_runs h _ _ r t ins alone acts makes s pc i (a_space_type kind) (of_space _ size small) q g f is more = by (nat_le size 65536) refl
     where
       j : Instance
       j = placed pc (machine.Space size ∷ []) i
@@ -189,7 +190,7 @@ module _ (x : Setting) (params slots : ℕ) (fit : SlotsFit x slots) {deep : ℕ
           (and_then (if_true c (given size) (fault h BadSize) s) (λ n. λ s1. and_then (region_named h r s1) (λ a. makes n a)))
       by true e = subst (λ u. Comes x j (valued (suc pc) []) (GoodCut h t) (makes size (region_of u) s)) (sym q.is)
           (more size (omega (arith, leb-true size 65536 e)) (λ ps. step ps true e))
-      by false e = ends_by x j _ ins h.line f
+      by false e = ends_alone x j _ ins h.line alone f
           (ap (on_step x j) (step i.parts false e) ∙ ap (λ t. IsOver (Broke (Some (record { kind = BadSize; line = h.line })) t)) g.text)
 
   -- equal parts
@@ -201,7 +202,7 @@ module _ (x : Setting) (params slots : ℕ) (fit : SlotsFit x slots) {deep : ℕ
   equal_runs h from v r own s pc i space p o g f near =
       let ins = instr.Equal (slot_named (where_of params h) r) in
       let q = region_named_there h r s i p (omega (arith, fit pc _ f)) g in
-      coloured_runs h from v r (partition_type equal_flag (bound_to h.scope.names r).number own) ins
+      coloured_runs h from v r (partition_type equal_flag (bound_to h.scope.names r).number own) ins refl
       (λ m u n st. makes u (equal_sets u.points n) equal_flag st m) (λ n a. given (partitioned a.root equal_flag (equal_sets a.points n)))
       s pc i space o q g f (λ m. refl)
       (λ n few acts.

@@ -1,31 +1,42 @@
 -- Loops over index spaces, over regions that have names, and over parts of partitions that have names.
-use Rattle.std.proofs.Common.{◌≡◌, ◌⊎◌, inl, inr, ℕ, suc, ◌^◌, ◌<◌, ◌≤◌, [], ◌∷◌, ◌++◌, Bool, true, pos, Some, refl, sym, ap, ◌∙◌, subst, ⊎_elim}
-use Rattle.std.specs.Prelude.{get_or, length}
-use Rattle.std.proofs.lemmas.List.{append_assoc}
+use Rattle.std.proofs.Common.{◌≡◌, ◌⊎◌, inl, inr, ℕ, suc, ◌^◌, ◌<◌, ◌≤◌, [], ◌∷◌, ◌++◌, Bool, true, false, arith, pos, Option, Some, None, refl, sym, ap, ◌∙◌, subst, ⊎_elim}
+use Rattle.std.specs.Prelude.{cond, get_or, length, ◌&&◌}
+use Rattle.std.proofs.lemmas.Option.{none-some}
+use Rattle.std.proofs.lemmas.List.{append_assoc, get_or-set_same}
 use Rattle.plain_values.specs.Points.{has}
 use Rattle.regent_tree.specs.Accesses.{space_in}
 use Rattle.regent_tree.specs.Evaluation.{value}
 use Rattle.regent_tree.specs.Execution.{Going, after_statement, exec, exec_block, items_of, looping, rounds as rounds_over}
 use Rattle.regent_tree.specs.Running.{Here, Run, State}
-use Rattle.regent_tree.specs.Scopes.{bound_as, bound_to}
-use Rattle.regent_tree.specs.Syntax.{Name, Expression, number_expr, truth_expr, chain_expr, prefix_expr, call_expr, access_expr, convert_expr, is_null_expr, null_expr, cast_expr, space_expr, no_step, field_step, at_step, for_in_form, Block}
+use Rattle.regent_tree.specs.Scopes.{bound_as, bound_to, with_name}
+use Rattle.regent_tree.specs.Syntax.{Name, Expression, number_expr, truth_expr, chain_expr, prefix_expr, call_expr, access_expr, convert_expr, is_null_expr, null_expr, cast_expr, space_expr, no_step, field_step, at_step, for_in_form, Form, Block, a_statement, call_form, no_statement, then_statement}
 use Rattle.regent_tree.specs.Typing.{is_pointer, parent_of, reaches_of, scope_after_block, taken_from}
 use Rattle.regent_tree.specs.Values.{Region, Value, a_region, region_of}
 use Rattle.regent_tree.specs.declared.typing.StaticType.{StaticType}
 use Rattle.task_code.specs.declared.instr.Instr.TheVariants as instr
 use Rattle.machine_terms.specs.declared.order.Instance.{Instance}
+use Rattle.machine_terms.specs.declared.value.Value.TheVariants as machine
+use Rattle.check_rules.specs.launches.Shapes.{shape_of}
+use Rattle.check_rules.specs.types.Declarations.{params_of}
+use Rattle.check_rules.specs.types.KnownTypes.{known_type}
+use Rattle.check_rules.specs.types.Sorts.{is_space}
 use Rattle.code_rules.specs.Expressions.{expr_code}
-use Rattle.code_rules.specs.Pieces.{Piece, op, past, rounds}
-use Rattle.code_rules.specs.Slots.{beside, bound, counter, slot, typed}
-use Rattle.code_rules.specs.Statements.{block_code, form_code}
+use Rattle.code_rules.specs.Pieces.{Piece, op, past, rounds, ◌⨟◌}
+use Rattle.code_rules.specs.Slots.{Where, beside, bound, counter, slot, typed}
+use Rattle.code_rules.specs.Initializers.{new_place}
+use Rattle.code_rules.specs.Instructions.{one}
+use Rattle.code_rules.specs.Launches.{LaunchedCall, is_launch, launch_code, launched_call, one_call}
+use Rattle.code_rules.specs.Statements.{block_code, form_code, in_one_step, looping as looping_in, on_line as on_code_line, points_code}
 use Rattle.code_laws.specs.Arguments.{IsCutName}
 use Rattle.code_laws.specs.Pointers.{AreReached, IsOfPart}
-use Rattle.code_laws.specs.Simple.{IsRegion, IsSpace, a_region_type}
-use Rattle.code_laws.specs.Standing.{Agrees, Aside, Does, IsInside, IsOf, SlotsFit, Stands, nothing, of_region, program_of, where_of}
+use Rattle.code_laws.specs.Simple.{IsRegion, IsSpace, a_region_type, a_space_type}
+use Rattle.code_laws.specs.Standing.{Agrees, Aside, Does, IsInside, IsOf, SlotsFit, Stands, blank, nothing, of_region, of_space, program_of, where_of}
 use Rattle.code_laws.specs.Steps.{Setting, placed}
-use Rattle.code_laws.specs.Typed.{CountsDown, IsIndexed, IsNamedRegion, IsOwnCut, IsTyped, LoopsOverPart, IsLooped, LoopsOver}
+use Rattle.code_laws.specs.Typed.{CountsDown, IsIndexed, IsNamedRegion, IsOwnCut, IsTyped, IsTypedBlock, LoopsOverPart, IsLooped, LoopsOver}
 use Rattle.code_laws.proofs.Expressions.{value_runs}
 use Rattle.code_laws.proofs.Good.{valued}
+use Rattle.code_laws.proofs.LaunchRuns.{launch_runs}
+use Rattle.code_laws.proofs.LaunchShapes.{AreForms, is_launched}
 use Rattle.code_laws.proofs.Names.{Grown, block_grown}
 use Rattle.code_laws.proofs.Operations.{named_runs}
 pub use Rattle.code_laws.proofs.PartTypes.{IsChild, part_is}
@@ -36,12 +47,17 @@ use Rattle.code_laws.proofs.RegionLoops.{regions_run}
 use Rattle.code_laws.proofs.Rows.{does_as, does_before, does_said}
 use Rattle.code_laws.proofs.Runs.{then}
 use Rattle.code_laws.proofs.SpaceLoops.{spaces_run}
+use Rattle.code_laws.proofs.States.{aside_stored, stored, stores}
 use Rattle.code_laws.proofs.Values.{named}
 use Rattle.code_laws.proofs.Wider.{loops_over, looped_over}
 
 -- a region has a region's type
 region_of_type : (t : StaticType) (q : Region) → IsRegion t → IsOf t (a_region q)
 region_of_type _ q (a_region_type k sp args r) = of_region k sp args r q
+
+-- and is no index space
+no_space : (t : StaticType) → IsRegion t → is_space t ≡ false
+no_space _ (a_region_type k sp args r) = refl
 
 one_region : (d u : Region) → a_region d ≡ a_region u → d ≡ u
 one_region d u e = ap region_of e
@@ -66,6 +82,13 @@ module _ (x : Setting) (params slots : ℕ) (fit : SlotsFit x slots) (counts : C
       regions_run x params slots fit counts aside h h2 name k sp args (Some r) q body code s pc i (inside q refl).0 (inside q refl).1 low (reach q refl) g
       f1 f2 f3 f4 grown same more
 
+  -- a loop point by point
+  abbrev points_form : Here → Name → Expression → Block → Piece
+  points_form h n domain body =
+      let w = where_of params h in
+      expr_code w 0 domain ⨟ one w (instr.Store (beside w (new_place w)))
+      ⨟ points_code w (is_pointer (taken_from (typed w domain))) (block_code (looping_in w n (taken_from (typed w domain))) body)
+
   -- what a block of a loop comes to
   abbrev BlockRuns : Here → Block → Type 0
   BlockRuns h1 body = (aside2 : Aside 0) (s5 : State) (p : ℕ) (j5 : Instance) → Agrees x params slots aside2 h1 s5 j5 →
@@ -77,15 +100,15 @@ module _ (x : Setting) (params slots : ℕ) (fit : SlotsFit x slots) (counts : C
   points_run : (aside : Aside 0) (h : Here) (demanded : Bool) (n : Name) (domain : Expression) (body : Block) (s : State) (pc : ℕ)
       (i : Instance) → params ≤ length h.scope.names →
       IsSpace (typed (where_of params h) domain) ⊎ IsNamedRegion (where_of params h) domain → IsTyped x.forms (where_of params h) domain →
-      Agrees x params slots aside h s i → Stands x.body pc (form_code (where_of params h) (for_in_form demanded n domain body)) →
+      Agrees x params slots aside h s i → Stands x.body pc (points_form h n domain body) →
       BlockRuns (looping h n (taken_from (typed (where_of params h) domain))) body →
-      Does x params slots aside (placed pc [] i) (past (form_code (where_of params h) (for_in_form demanded n domain body)) pc)
+      Does x params slots aside (placed pc [] i) (past (points_form h n domain body) pc)
       (after_statement h (for_in_form demanded n domain body)) (exec h (for_in_form demanded n domain body) s)
   points_run aside h demanded n domain body s pc i low (inl space) fine g f more =
       let w = where_of params h in
       let t = typed w domain in
       let a = past (expr_code w 0 domain) pc in
-      let done = past (form_code w (for_in_form demanded n domain body)) pc in
+      let done = past (points_form h n domain body) pc in
       let h1 = looping h n (taken_from t) in
       let h2 = record h1 { scope = scope_after_block h.tree h1.scope body } in
       let grown = block_grown h.tree h1.scope body in
@@ -175,15 +198,15 @@ module _ (x : Setting) (params slots : ℕ) (fit : SlotsFit x slots) (counts : C
   -- `for n in p[e]`
   parts_run : (aside : Aside 0) (h : Here) (demanded : Bool) (n : Name) (domain : Expression) (body : Block) (s : State) (pc : ℕ)
       (i : Instance) → params ≤ length h.scope.names → LoopsOverPart (where_of params h) domain (IsIndexed x.forms (where_of params h) domain) →
-      Agrees x params slots aside h s i → Stands x.body pc (form_code (where_of params h) (for_in_form demanded n domain body)) →
+      Agrees x params slots aside h s i → Stands x.body pc (points_form h n domain body) →
       BlockRuns (looping h n (taken_from (typed (where_of params h) domain))) body →
-      Does x params slots aside (placed pc [] i) (past (form_code (where_of params h) (for_in_form demanded n domain body)) pc)
+      Does x params slots aside (placed pc [] i) (past (points_form h n domain body) pc)
       (after_statement h (for_in_form demanded n domain body)) (exec h (for_in_form demanded n domain body) s)
   parts_run aside h demanded n (access_expr q (at_step e no_step)) body s pc i low part g f more =
       let w = where_of params h in
       let domain = access_expr q (at_step e no_step) in
       let a = past (expr_code w 0 domain) pc in
-      let done = past (form_code w (for_in_form demanded n domain body)) pc in
+      let done = past (points_form h n domain body) pc in
       does_as x params slots fit counts aside _ h (after_statement h (for_in_form demanded n domain body)) _ _ (refl, refl)
       (then x (does_said x params slots fit counts aside done h) (valued a []) (GoodPart x params slots fit aside h q e) _ (value h domain s) _
       (part_runs x params slots fit aside h 0 q e s pc [] i part.0
@@ -204,17 +227,91 @@ module _ (x : Setting) (params slots : ℕ) (fit : SlotsFit x slots) (counts : C
   parts_run aside h demanded n (cast_expr _ _) body s pc i low part g f more = absurd part
   parts_run aside h demanded n (space_expr _ _) body s pc i low part g f more = absurd part
 
-  -- `for n in domain`, whose body is typed
+  -- a launch over a space that stands on the stack
+  launched_run : (aside : Aside 0) (h : Here) (n : Name) (t1 t : StaticType) (v : Value) (c : LaunchedCall) (s : State) (a : ℕ) (j : Instance) → IsSpace t → IsOf t v →
+      params ≤ length h.scope.names → Agrees x params slots aside h s j →
+      AreForms (with_name h.scope n t1 true).names n (params_of h.tree c.task) 0 c.args →
+      IsTypedBlock x.forms (where_of params (looping h n (taken_from t))) (then_statement (a_statement c.line (call_form c.task c.args)) no_statement) →
+      Stands x.body a (op (instr.Store (beside (where_of params h) (length h.scope.names))) h.line) →
+      Stands x.body (suc a) (launch_code (where_of params h) (on_code_line (looping_in (where_of params h) n (taken_from t)) c.line) n
+      (beside (where_of params h) (length h.scope.names)) c) →
+      Does x params slots aside (valued a [] v j)
+      (past (launch_code (where_of params h) (on_code_line (looping_in (where_of params h) n (taken_from t)) c.line) n
+      (beside (where_of params h) (length h.scope.names)) c) (suc a)) h
+      (rounds_over h (items_of v) (exec_block (looping h n (taken_from t)) (then_statement (a_statement c.line (call_form c.task c.args)) no_statement)) s)
+  launched_run aside h n t1 _ _ c s a j (a_space_type k0) (of_space _ m small) low g forms fine f1 f2 =
+      let k = length h.scope.names in
+      let l = beside (where_of params h) k in
+      let up : aside.upto ≤ k = omega (arith, g.inside, g.count) in
+      let g1 = aside_stored x params slots fit aside h s j k 2 (machine.Space m) low up (omega arith) (omega arith) (omega arith) refl g in
+      does_before x params slots fit counts aside _ h _ _ _ (stores x params slots fit l a h.line (machine.Space m) [] j g.slots_are f1)
+      (launch_runs x params slots fit counts aside h n k0 c.line c.task c.args t1 low m s (suc a) (stored l (machine.Space m) j) small forms fine.0 g1
+      (get_or-set_same j.frame.slots l (machine.Space m) blank (omega (arith, g.slots_are, fit _ _ f1))) f2)
+
   pub domains_run : (aside : Aside 0) (h : Here) (demanded : Bool) (n : Name) (domain : Expression) (body : Block) (s : State) (pc : ℕ)
-      (i : Instance) → params ≤ length h.scope.names → (Body : Type 0) →
-      IsLooped x.forms.keeps (where_of params h) domain (IsTyped x.forms (where_of params h) domain) (IsIndexed x.forms (where_of params h) domain) Body →
+      (i : Instance) → params ≤ length h.scope.names →
+      IsLooped x.forms.keeps (where_of params h) domain (IsTyped x.forms (where_of params h) domain) (IsIndexed x.forms (where_of params h) domain)
+      (IsTypedBlock x.forms (where_of params (looping h n (taken_from (typed (where_of params h) domain)))) body) →
       Agrees x params slots aside h s i → Stands x.body pc (form_code (where_of params h) (for_in_form demanded n domain body)) →
-      (Body → BlockRuns (looping h n (taken_from (typed (where_of params h) domain))) body) →
+      (IsTypedBlock x.forms (where_of params (looping h n (taken_from (typed (where_of params h) domain)))) body →
+      BlockRuns (looping h n (taken_from (typed (where_of params h) domain))) body) →
       Does x params slots aside (placed pc [] i) (past (form_code (where_of params h) (for_in_form demanded n domain body)) pc)
       (after_statement h (for_in_form demanded n domain body)) (exec h (for_in_form demanded n domain body) s)
-  domains_run aside h demanded n domain body s pc i low Body fine g f more =
-      let w = where_of params h in ⊎_elim
-      (λ (a : LoopsOver x.forms.keeps w domain × IsTyped x.forms w domain × Body).
-      points_run aside h demanded n domain body s pc i low (loops_over x.forms.keeps w domain a.0) a.1 g f (more a.2))
-      (λ (a : LoopsOverPart w domain (IsIndexed x.forms w domain) × Body). parts_run aside h demanded n domain body s pc i low a.0 g f (more a.1))
-      (looped_over x.forms.keeps w domain _ _ Body fine)
+  domains_run aside h demanded n domain body s pc i low fine g f more = by (launched_call w form body) refl f
+    where
+      w : Where
+      w = where_of params h
+
+      form : Form
+      form = for_in_form demanded n domain body
+
+      t : StaticType
+      t = typed w domain
+
+      Body : Type 0
+      Body = IsTypedBlock x.forms (where_of params (looping h n (taken_from t))) body
+
+      points : Piece
+      points = points_code w (is_pointer (taken_from t)) (block_code (looping_in w n (taken_from t)) body)
+
+      piece : Option LaunchedCall → Piece
+      piece o = expr_code w 0 domain ⨟ one w (instr.Store (beside w (new_place w))) ⨟ in_one_step w (looping_in w n (taken_from t)) n o points
+
+      Goal : Option LaunchedCall → Type 0
+      Goal o = Stands x.body pc (piece o) → Does x params slots aside (placed pc [] i) (past (piece o) pc) (after_statement h form) (exec h form s)
+
+      none_over : IsRegion t → launched_call w form body ≡ None
+      none_over region = ap (λ b. cond (b && is_launch (shape_of w.tree w.scope form)) (one_call body) None) (no_space t region)
+
+      part_region : (e : Expression) → LoopsOverPart w e (IsIndexed x.forms w domain) → IsRegion (typed w e)
+      part_region (access_expr q (at_step e no_step)) p = p.2
+      part_region _ p = absurd p
+
+      named_region : (e : Expression) → IsNamedRegion w e → IsRegion (typed w e)
+      named_region (access_expr q no_step) p = p.0
+      named_region _ p = absurd p
+
+      by : (o : Option LaunchedCall) → launched_call w form body ≡ o → Goal (launched_call w form body)
+      by None e = subst Goal (sym e) (λ f. ⊎_elim
+          (λ (a : LoopsOver x.forms.keeps w domain × IsTyped x.forms w domain × Body).
+          points_run aside h demanded n domain body s pc i low (loops_over x.forms.keeps w domain a.0) a.1 g f (more a.2))
+          (λ (a : LoopsOverPart w domain (IsIndexed x.forms w domain) × Body). parts_run aside h demanded n domain body s pc i low a.0 g f (more a.1))
+          (looped_over x.forms.keeps w domain _ _ Body fine))
+      by (Some c) e = ⊎_elim
+          (λ (a : LoopsOver x.forms.keeps w domain × IsTyped x.forms w domain × Body).
+          ⊎_elim (λ space. subst Goal (sym e) (launches space a.1 a.2))
+          (λ region. absurd (none-some c (sym (none_over (named_region domain region)) ∙ e))) (loops_over x.forms.keeps w domain a.0))
+          (λ (a : LoopsOverPart w domain (IsIndexed x.forms w domain) × Body). absurd (none-some c (sym (none_over (part_region domain a.0)) ∙ e)))
+          (looped_over x.forms.keeps w domain _ _ Body fine)
+        where
+          launches : IsSpace t → IsTyped x.forms w domain → Body → Goal (Some c)
+          launches space fine_domain fine_body f =
+              let is = is_launched w n domain c demanded body e in
+              let done = past (piece (Some c)) pc in
+              does_as x params slots fit counts aside _ h (after_statement h form) _ _ (refl, refl)
+              (then x (does_said x params slots fit counts aside done h) _ _ _ (value h domain s) _
+              (value_runs x params slots fit aside h 0 low domain s pc [] i fine_domain g f.0)
+              (λ v s1 j k1. subst (λ b. Does x params slots aside (valued (past (expr_code w 0 domain) pc) [] v j) done h
+              (rounds_over h (items_of v) (exec_block (looping h n (taken_from t)) b) s1)) (sym is.is)
+              (launched_run aside h n (taken_from (known_type h.tree h.scope domain)) t v c s1 (past (expr_code w 0 domain) pc) j space k1.0 low k1.1 is.forms
+              (subst (IsTypedBlock x.forms (where_of params (looping h n (taken_from t)))) is.is fine_body) f.1.0 f.1.1)))

@@ -52,12 +52,12 @@ module _ (x : Setting) (params slots : ℕ) (fit : SlotsFit x slots) {deep : ℕ
       (and_then (colours h v s) (λ n. λ s1. and_then (region_named h r s1) (λ a. λ s2. and_then (read_all h (static_type_of h r) a f s2)
       (λ c. given (partitioned a.root by_field_flag (by_field_sets a.points c.numbers n))))))
   by_field_runs h from v r f own s pc i space scanned o g stands near =
-      coloured_runs x params slots fit aside h from v r t ins
+      coloured_runs x params slots fit aside h from v r t ins refl
       (λ m u n st. on_column m u place (λ zs pointers. makes u (by_field_sets u.points zs n) by_field_flag st m)) meant
       s pc i space o q g stands (λ m. refl)
       (λ n few acts. columns x i q.region.root place s.store pc h.line (machine.Space n ∷ []) ins q.region.points
       (λ j. Comes x j (valued (suc pc) []) (GoodCut x params slots fit aside h t) (meant n q.region s))
-      (λ m zs pointers. makes value (by_field_sets q.region.points zs n) by_field_flag [] m) g.memory
+      (λ m zs pointers. makes value (by_field_sets q.region.points zs n) by_field_flag [] m) refl g.memory
       (λ p e. (reached x params slots aside h s i q.region b.static_type scanned.parent.region place p mode.Read g q.inside scanned.may scanned.field e).covers)
       stands acts (λ j k l c. comes_before x (valued (suc pc) []) (GoodCut x params slots fit aside h t) j k (meant n q.region s) l c)
       (λ ps holds is. made n few ps holds (ap (on_step x (placed pc (machine.Space n ∷ []) (parted ps i))) is)))

@@ -152,7 +152,7 @@ fills x i pc line s f place w z st xs store there h good stands = by_points xs r
         touches x i pc line place f n (machine.Number z ∷ st) (instr.Fill s f w) mode.Write store
         (λ k. (ps : List Part) × Leads x k (placed (suc pc) st (parted ps i))
         × Holds x.code (write_all store place f xs (wrapped w z)) (memory_of (parted ps i)))
-        h one.0 stands
+        refl h one.0 stands
         (λ miss. step i.parts (n ∷ ys) there
         ∙ ap (λ b. on_step x (placed pc (machine.Number z ∷ st) i) (fill_cell (number_at i.contents place) f w n z b (machine_of (placed pc (machine.Number z ∷ st) i)) (fill_points (number_at i.contents place) f w z ys st))) miss)
         (λ j k l t. (t.0, leads_twice x l t.1, t.2))

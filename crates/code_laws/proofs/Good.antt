@@ -9,7 +9,7 @@ use Rattle.machine_terms.specs.Segments.{act}
 use Rattle.machine_terms.specs.declared.order.Instance.{Instance}
 use Rattle.machine_terms.specs.declared.order.Resumed.TheVariants.{GoesOn}
 use Rattle.code_rules.specs.Pieces.{Piece, op, past}
-use Rattle.code_laws.specs.Steps.{Setting, machine_of, placed, on_step}
+use Rattle.code_laws.specs.Steps.{Setting, behind, machine_of, placed, on_step}
 use Rattle.code_laws.specs.Standing.{Stands, machine_value, IsOf, Aside, SlotsFit, Agrees, Comes}
 use Rattle.code_laws.proofs.Runs.{leads_by}
 
@@ -31,7 +31,7 @@ module _ (x : Setting) (params slots : ℕ) (fit : SlotsFit x slots) {deep : ℕ
   pub pushes : (h : Here) (t : StaticType) (v : Value) (s : State) (pc : ℕ)
       (before st : List MachineValue) (i : Instance) (ins : Instr) (line : ℕ) →
       Stands x.body pc (op ins line) → IsOf t v → Agrees x params slots aside h s i →
-      on_step x (placed pc before i) (act x.code x.body ins line (machine_of (placed pc before i)))
+      behind ins (on_step x (placed pc before i) (act x.code x.body ins line (machine_of (placed pc before i))))
       ≡ GoesOn (valued (suc pc) st v i) →
       Gives h t (op ins line) pc before st i (gives v s)
   pushes h t v s pc before st i ins line f o a e = (i, leads_by x _ _ ins line f e, (o, a))

@@ -1,11 +1,13 @@
 -- No instruction loses a root that the instance made: more may come behind those.
-use Rattle.std.proofs.Common.{◌≡◌, List, [], ◌∷◌, ◌++◌, Bool, true, false, cond, ℕ, refl, sym, ap, ◌∙◌, subst}
+use Rattle.std.proofs.Common.{◌≡◌, List, [], ◌∷◌, ◌++◌, Bool, true, false, cond, Option, Some, None, ℕ, refl, sym, ap, ◌∙◌, subst}
 use Rattle.std.proofs.lemmas.List.{append-nil, append_assoc}
 use Rattle.region_tree.specs.declared.tree.RootId.{RootId}
+use Rattle.regent_tree.specs.declared.outcome.Fault.{Fault}
 use Rattle.task_code.specs.declared.instr.Instr.{Instr}
+use Rattle.task_code.specs.declared.instr.Instr.TheVariants as instr
 use Rattle.machine_terms.specs.declared.order.Instance.{Instance}
 use Rattle.machine_terms.specs.declared.order.Resumed.{Resumed}
-use Rattle.machine_terms.specs.declared.order.Resumed.TheVariants.{GoesOn}
+use Rattle.machine_terms.specs.declared.order.Resumed.TheVariants.{GoesOn, IsOver}
 use Rattle.machine_terms.specs.declared.outcome.Made.{Made}
 use Rattle.machine_terms.specs.declared.outcome.Made.TheVariants as made
 use Rattle.machine_terms.specs.declared.outcome.Yield.{Yield}
@@ -15,9 +17,9 @@ use Rattle.machine_terms.specs.Makes.{is_sound, make_partition}
 use Rattle.machine_terms.specs.Orders.{breaks, call_all, give_all, make}
 use Rattle.machine_terms.specs.Segments.{act}
 use Rattle.machine_terms.proofs.InstructionKinds.{act_kind}
-use Rattle.machine_terms.proofs.StepKinds.{Asking, IsOver, Kind, awaits, called, jumped, key_of, makes, nexted, over, printed, slot_of, turned, wants}
+use Rattle.machine_terms.proofs.StepKinds.{Asking, IsOver as IsLast, Kind, awaits, called, is_launch, jumped, key_of, makes, nexted, over, printed, slot_of, turned, wants}
 use Rattle.order_laws.proofs.Resuming.{Each, calls_frames, each_map}
-use Rattle.code_laws.specs.Steps.{HasMore, Setting, has_machine, machine_of, on_step}
+use Rattle.code_laws.specs.Steps.{HasMore, Setting, behind, due, has_machine, machine_of, now_or_due, on_step}
 
 pub more_none : (own : List RootId) → HasMore own own
 more_none own = record { more = []; are = sym (append-nil own) }
@@ -48,7 +50,7 @@ module _ (x : Setting) where
       chosen true = more_same own k.frame.own e
       chosen false = tt
 
-  stopped : (y : Yield) (m : Machine) (i : Instance) → IsOver y → Grows i.frame.own (on_step x i (stops y m))
+  stopped : (y : Yield) (m : Machine) (i : Instance) → IsLast y → Grows i.frame.own (on_step x i (stops y m))
   stopped (yield.End v) m i o = tt
   stopped (yield.Fault f) m i o = tt
   stopped yield.MachineFault m i o = tt
@@ -59,11 +61,11 @@ module _ (x : Setting) where
 
   steps_grow : (ask : Asking) (i : Instance) (s : Stepped) → Kind ask (machine_of i) s → Grows i.frame.own (on_step x i s)
   steps_grow ask i _ (over y m o f) = stopped y m i o
-  steps_grow ask i _ (called o m f a b c) =
+  steps_grow ask i _ (called cs m f a b c k) =
       each_map (λ j. j.frame ≡ m.frame) (λ j. HasMore i.frame.own j.frame.own)
       (λ j e. more_same i.frame.own j.frame.own (ap (λ g. g.own) e ∙ f.own))
-      (call_all x.code x.turns x.child (o ∷ []) (give_all (has_machine m i)))
-      (calls_frames x.code x.turns x.child (o ∷ []) m.frame (give_all (has_machine m i)) refl)
+      (call_all x.code x.turns x.child cs (give_all (has_machine m i)))
+      (calls_frames x.code x.turns x.child cs m.frame (give_all (has_machine m i)) refl)
   steps_grow ask i _ (makes d m f a b) = makes_more i.frame.own (has_machine m i) d f.own
   steps_grow ask i _ (wants r g m f a b c) = more_same i.frame.own m.frame.own f.own
   steps_grow ask i _ (awaits n a) = more_none i.frame.own
@@ -72,9 +74,22 @@ module _ (x : Setting) where
   steps_grow ask i _ (jumped m f a b) = more_same i.frame.own m.frame.own f.own
   steps_grow ask i _ (turned m f a) = more_same i.frame.own m.frame.own f.own
 
+  due_grows : (own : List RootId) (r : Resumed) → Grows own r → Grows own (due r)
+  due_grows own (IsOver e) g = tt
+  due_grows own (GoesOn j) g = by_later j.frame.later
+    where
+      by_later : (o : Option Fault) → Grows own (now_or_due o j)
+      by_later None = g
+      by_later (Some f) = tt
+
+  behind_grows : (own : List RootId) (ins : Instr) (r : Resumed) → Grows own r → Grows own (behind ins r)
+  behind_grows own (instr.Launch task s line args) r g = due_grows own r g
+  behind_grows own _ r g = g
+
   pub goes_grow : (i j : Instance) (ins : Instr) (line : ℕ) →
-      on_step x i (act x.code x.body ins line (machine_of i)) ≡ GoesOn j → HasMore i.frame.own j.frame.own
+      behind ins (on_step x i (act x.code x.body ins line (machine_of i))) ≡ GoesOn j → HasMore i.frame.own j.frame.own
   goes_grow i j ins line e =
-      let ask : Asking = record { body = x.body; key = key_of ins i.frame; slot = slot_of ins i.frame } in
+      let ask : Asking = record { body = x.body; key = key_of ins i.frame; slot = slot_of ins i.frame; launch = is_launch ins } in
       subst (Grows i.frame.own) e
-      (steps_grow ask i _ (act_kind ask x.code ins line (machine_of i) refl refl))
+      (behind_grows i.frame.own ins _
+      (steps_grow ask i _ (act_kind ask x.code ins line (machine_of i) refl refl refl)))

@@ -43,6 +43,7 @@ use Rattle.memory_laws.specs.Places.{number_at}
 use Rattle.code_rules.specs.Initializers.{field_of}
 use Rattle.code_rules.specs.Pieces.{op}
 use Rattle.code_rules.specs.Slots.{slot_named}
+use Rattle.machine_terms.proofs.StepKinds.{is_launch}
 use Rattle.code_laws.specs.Arguments.{IsCutName, IsParent, LiesBelow, parent_bound}
 use Rattle.code_laws.specs.Standing.{Agrees, Aside, Comes, SlotsFit, Stands, nothing, of_partition, where_of}
 use Rattle.code_laws.specs.Steps.{Setting, machine_of, on_step, placed}
@@ -55,7 +56,7 @@ use Rattle.code_laws.proofs.PairCuts.{NamedPartition, partition_named_there, set
 use Rattle.code_laws.proofs.Parts.{parent_inside}
 use Rattle.code_laws.proofs.Reaching.{kept_here, Reached, reached, region_had, rewritten}
 use Rattle.code_laws.proofs.Rows.{three_least}
-use Rattle.code_laws.proofs.Runs.{comes_before, leads_by}
+use Rattle.code_laws.proofs.Runs.{comes_before, leads_alone}
 use Rattle.code_laws.proofs.Touching.{parted}
 use Rattle.code_laws.proofs.Began.{lies_below}
 use Rattle.code_laws.proofs.Under.{under_named, under_numbered}
@@ -114,7 +115,7 @@ module _ (x : Setting) (params slots : ℕ) (fit : SlotsFit x slots) {deep : ℕ
 
   -- where the operation's instruction takes the region that is divided, the partition, and the field's region
   mapped_runs : (sets : List ℕ → List (List ℕ) → List ℕ → List ℤ → Bool → List (List ℕ)) (flag : Bool → Bool) → IsMapping sets flag →
-      (asks : RegionValue → PartitionValue → RegionValue → Bool) (ins : Instr) (e : Bool) (h : Here) (n p r f : Name) (own : ℕ) (s : State) (pc : ℕ)
+      (asks : RegionValue → PartitionValue → RegionValue → Bool) (ins : Instr) → is_launch ins ≡ false → (e : Bool) (h : Here) (n p r f : Name) (own : ℕ) (s : State) (pc : ℕ)
       (i : Instance) → IsParent (where_of params h) n → IsScanned x.forms (where_of params h) r f →
       (a : NamedRegion x params slots fit aside h (bound_to h.scope.names n) s i) (q : NamedPartition x params slots fit aside h p s i)
       (b : NamedRegion x params slots fit aside h (bound_to h.scope.names r) s i) → Agrees x params slots aside h s i →
@@ -128,10 +129,10 @@ module _ (x : Setting) (params slots : ℕ) (fit : SlotsFit x slots) {deep : ℕ
       Comes x (placed pc [] i) (valued (suc pc) []) (GoodCut x params slots fit aside h (partition_type e (bound_to h.scope.names n).number own))
       (and_then (read_all h (static_type_of h r) b.region f s)
       (λ c. given (partitioned a.region.root (flag q.partition.disjoint) (sets a.region.points q.partition.sets b.region.points c.numbers c.pointers))))
-  mapped_runs sets flag mapping asks ins e h n p r f own s pc i parent scanned a q b g stands near asked is =
+  mapped_runs sets flag mapping asks ins alone e h n p r f own s pc i parent scanned a q b g stands near asked is =
       columns x i b.region.root place s.store pc h.line [] ins b.region.points
       (λ j. Comes x j (valued (suc pc) []) (GoodCut x params slots fit aside h t) meant)
-      (λ m zs pointers. makes (value_of i a.region) (sets a.region.points (sets_of (seen i q.partition)) b.region.points zs pointers) d [] m) g.memory
+      (λ m zs pointers. makes (value_of i a.region) (sets a.region.points (sets_of (seen i q.partition)) b.region.points zs pointers) d [] m) alone g.memory
       (λ p e. (known p e).covers)
       stands acts (λ j k l c. comes_before x (valued (suc pc) []) (GoodCut x params slots fit aside h t) j k meant l c) made
     where
@@ -204,7 +205,7 @@ module _ (x : Setting) (params slots : ℕ) (fit : SlotsFit x slots) {deep : ℕ
           let parts = mapping.parts a.region.points q.partition.sets b.region.points zs pointers a.lies.set.rising in
           let apart = mapping.apart a.region.points q.partition.sets b.region.points zs pointers q.partition.disjoint b.lies.set.rising q.cut.apart in (
             parted ps i,
-            leads_by x j _ ins h.line stands
+            leads_alone x j _ ins h.line alone stands
                 (ap (on_step x j) (does
                 ∙ ap (λ y. makes (value_of i a.region) (sets a.region.points y b.region.points zs (are_pointers kind b.region.points)) d [] m)
                 (sets_there (number_at i.contents q.partition.root) q.partition.sets)
@@ -262,7 +263,7 @@ module _ (x : Setting) (params slots : ℕ) (fit : SlotsFit x slots) {deep : ℕ
       three_named h n p r s i a q b (λ a q b. Comes x (placed pc [] i) (valued (suc pc) []) (GoodCut x params slots fit aside h t)
       (and_then (read_all h (static_type_of h r) b f s)
       (λ c. given (partitioned a.root image_flag (image_sets a.points q.sets b.points c.numbers c.pointers)))))
-      (mapped_runs image_sets (λ d. image_flag) image_mapping (λ u v y. lie_in v.root.0 (sets_of v) y) ins image_flag h n p r f own s pc i parent scanned a q b g
+      (mapped_runs image_sets (λ d. image_flag) image_mapping (λ u v y. lie_in v.root.0 (sets_of v) y) ins refl image_flag h n p r f own s pc i parent scanned a q b g
       stands near asked (λ m. refl))
 
   -- `preimage(n, p, r.f)`
@@ -295,5 +296,5 @@ module _ (x : Setting) (params slots : ℕ) (fit : SlotsFit x slots) {deep : ℕ
       three_named h n p r s i a q b (λ a q b. Comes x (placed pc [] i) (valued (suc pc) []) (GoodCut x params slots fit aside h t)
       (and_then (read_all h (static_type_of h r) b f s)
       (λ c. given (partitioned a.root (preimage_flag q.disjoint) (preimage_sets a.points q.sets b.points c.numbers c.pointers)))))
-      (mapped_runs preimage_sets preimage_flag preimage_mapping (λ u v y. lie_in u.root.0 (u.points ∷ []) y) ins e h n p r f own s pc i parent scanned a q b g
+      (mapped_runs preimage_sets preimage_flag preimage_mapping (λ u v y. lie_in u.root.0 (u.points ∷ []) y) ins refl e h n p r f own s pc i parent scanned a q b g
       stands near asked (λ m. refl))

@@ -143,3 +143,14 @@ pub mod PointerExample
 pub mod PointerCallExample
 pub mod CallExample
 pub mod HandingExample
+pub mod LaunchShapes
+pub mod LaunchParams
+pub mod LaunchValues
+pub mod LaunchKept
+pub mod LaunchTypes
+pub mod LaunchArguments
+pub mod LaunchStates
+pub mod LaunchRounds
+pub mod LaunchRuns
+pub mod LaunchFollowed
+pub mod LaunchExample

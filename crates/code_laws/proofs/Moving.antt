@@ -79,14 +79,14 @@ positions_small known (a ∷ from) to (suc m) = positions_small known from to m
 pub positions_many : (known : List Known) (from to : List Reach) → length (positions known from to) ≡ length from
 positions_many known from to = length-map from (λ a. cond (has_wild to) 0 (position_of known to a))
 
-moved_small : (js : List ℕ) (m n : ℕ) (tg : Target) → ((c : ℕ) → get_or js c 0 ≤ n) → IsPosition m tg → IsPosition n (moved js tg)
+pub moved_small : (js : List ℕ) (m n : ℕ) (tg : Target) → ((c : ℕ) → get_or js c 0 ≤ n) → IsPosition m tg → IsPosition n (moved js tg)
 moved_small js m n null_target small o = tt
 moved_small js m n (point_target p zero) small o = (o.0, omega arith)
 moved_small js m n (point_target p (suc c)) small o = (o.0, small c)
 
 module _ (x : Setting) (params slots : ℕ) (fit : SlotsFit x slots) {deep : ℕ} (aside : Aside deep) where
   -- a pointer's position is moved
-  moves : (js : List ℕ) (m line : ℕ) (tg : Target) (pc : ℕ) (st : List MachineValue) (i : Instance) → length js ≡ m → IsPosition m tg →
+  pub moves : (js : List ℕ) (m line : ℕ) (tg : Target) (pc : ℕ) (st : List MachineValue) (i : Instance) → length js ≡ m → IsPosition m tg →
       Stands x.body pc (op (instr.Move js) line) →
       Leads x (placed pc (machine.Number (kept_target tg) ∷ st) i) (placed (suc pc) (machine.Number (kept_target (moved js tg)) ∷ st) i)
   moves js m line null_target pc st i many o f = leads_by x _ _ (instr.Move js) line f refl

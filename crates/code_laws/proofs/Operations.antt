@@ -43,12 +43,13 @@ use Rattle.task_code.specs.declared.code.Line.{Line}
 use Rattle.machine_terms.specs.Jumps.{fetch}
 use Rattle.code_rules.specs.Slots.{slot, slot_named}
 use Rattle.code_rules.specs.Instructions.{converted_code, signs_code, standing_code, operand_code, computing, comparing, operating, one, as_number_code}
+use Rattle.machine_terms.proofs.StepKinds.{is_launch}
 use Rattle.code_laws.specs.Steps.{Setting, machine_of, placed, on_step, Leads}
 use Rattle.code_laws.specs.Standing.{Stands, machine_value, IsOf, of_index, of_integer, of_space, of_truth, nothing, blank, Aside, SlotsFit, where_of, Agrees, Comes}
 use Rattle.code_laws.specs.Simple.{AreComparable, compare_numbers, compare_truths, IsNumber, number_index, number_integer, IsInteger, an_integer, IsTruth, a_truth_type, AreAlike, two_integers, two_truths, IsScalar, scalar_integer, scalar_truth, SignsFit, of_a_truth, of_an_integer, not_before, minus_before, IsIntegerTerm, term_32, term_64}
-use Rattle.code_laws.proofs.Runs.{leads_none, leads_twice, leads_by, ends_by, comes_before}
+use Rattle.code_laws.proofs.Runs.{behind_alone, leads_none, leads_twice, leads_by, ends_alone, ends_by, comes_before}
 use Rattle.code_laws.proofs.Good.{valued, Good, Gives, pushes}
-use Rattle.code_laws.proofs.Values.{jump_later, load_value, named, act_computing, act_comparing, computed_fits}
+use Rattle.code_laws.proofs.Values.{jump_later, load_value, named, act_computing, act_comparing, comparing_alone, computing_alone, computed_fits}
 
 -- an instruction stands at a place of 32 bits
 pub fetch_small : (body : List Line) (pc : ℕ) (l : Line) → fetch body pc ≡ Some l → pc < 2 ^ 32
@@ -63,19 +64,19 @@ module _ (x : Setting) (params slots : ℕ) (fit : SlotsFit x slots) {deep : ℕ
   -- ---- arithmetic
 
   pub divided_runs : (h : Here) (w : Width) (t : StaticType) (made : ℤ → Value) (s : State) (pc : ℕ)
-      (before st : List MachineValue) (i : Instance) (ins : Instr) (line : ℕ) →
+      (before st : List MachineValue) (i : Instance) (ins : Instr) (line : ℕ) → is_launch ins ≡ false →
       ((z : ℤ) → FitsWidth w z → IsOf t (made z)) → ((z : ℤ) → machine_value i.contents (made z) ≡ machine.Number z) →
       h.line ≡ line → Stands x.body pc (op ins line) →
       Agrees x params slots aside h s i → (r : Option ℤ) → ((z : ℤ) → r ≡ Some z → FitsWidth w z) →
       act x.code x.body ins line (machine_of (placed pc before i))
       ≡ divided r line st (machine_of (placed pc before i)) →
       Gives x params slots fit aside h t (op ins line) pc before st i (unless_divided h made r s)
-  divided_runs h w t made s pc before st i ins line typed number hl f a (Some z) fits e =
+  divided_runs h w t made s pc before st i ins line alone typed number hl f a (Some z) fits e =
       pushes x params slots fit aside h t (made z) s pc before st i ins line f
       (typed z (fits z refl)) a
-      (ap (on_step x (placed pc before i)) e ∙ ap (λ v. GoesOn (placed (suc pc) (v ∷ st) i)) (sym (number z)))
-  divided_runs h w t made s pc before st i ins line typed number hl f a None fits e =
-      ends_by x _ _ ins line f
+      (behind_alone x ins alone _ ∙ ap (on_step x (placed pc before i)) e ∙ ap (λ v. GoesOn (placed (suc pc) (v ∷ st) i)) (sym (number z)))
+  divided_runs h w t made s pc before st i ins line alone typed number hl f a None fits e =
+      ends_alone x _ _ ins line alone f
       (ap (on_step x (placed pc before i)) e
       ∙ ap (λ l. IsOver (Broke (Some (record { kind = DivideByZero; line = l })) i.text)) (sym hl)
       ∙ ap (λ u. IsOver (Broke (Some (record { kind = DivideByZero; line = h.line })) u)) a.text)
@@ -89,20 +90,20 @@ module _ (x : Setting) (params slots : ℕ) (fit : SlotsFit x slots) {deep : ℕ
       (machine_value i.contents w ∷ machine_value c v ∷ st) st i (combined h (Compute o) v w s)
   compute_runs c h o _ _ _ _ s pc st i (number_integer a) (number_integer b) (of_integer _ y _) (of_integer _ z _) g f =
       divided_runs h (wider a b) (integer_type (wider a b)) (a_number (wider a b)) s pc (machine.Number z ∷ machine.Number y ∷ st) st i
-      (computing o (wider a b)) h.line (λ r p. of_integer (wider a b) r p) (λ r. refl) refl f
+      (computing o (wider a b)) h.line (computing_alone o (wider a b)) (λ r p. of_integer (wider a b) r p) (λ r. refl) refl f
       g (computed o (wider a b) y z) (computed_fits o (wider a b) y z)
       (act_computing x.code x.body o (wider a b) h.line _)
   compute_runs c h o _ _ _ _ s pc st i (number_index k) (number_integer b) (of_index _ y _) (of_integer _ z _) g f =
       divided_runs h W64 (index_type k) an_index s pc (machine.Number z ∷ machine.Number y ∷ st) st i
-      (computing o W64) h.line (λ r p. of_index k r p) (λ r. refl) refl f
+      (computing o W64) h.line (computing_alone o W64) (λ r p. of_index k r p) (λ r. refl) refl f
       g (computed o W64 y z) (computed_fits o W64 y z) (act_computing x.code x.body o W64 h.line _)
   compute_runs c h o _ _ _ _ s pc st i (number_integer a) (number_index k) (of_integer _ y _) (of_index _ z _) g f =
       divided_runs h W64 (index_type k) an_index s pc (machine.Number z ∷ machine.Number y ∷ st) st i
-      (computing o W64) h.line (λ r p. of_index k r p) (λ r. refl) refl f
+      (computing o W64) h.line (computing_alone o W64) (λ r p. of_index k r p) (λ r. refl) refl f
       g (computed o W64 y z) (computed_fits o W64 y z) (act_computing x.code x.body o W64 h.line _)
   compute_runs c h o _ _ _ _ s pc st i (number_index k) (number_index n) (of_index _ y _) (of_index _ z _) g f =
       divided_runs h W64 (index_type k) an_index s pc (machine.Number z ∷ machine.Number y ∷ st) st i
-      (computing o W64) h.line (λ r p. of_index k r p) (λ r. refl) refl f
+      (computing o W64) h.line (computing_alone o W64) (λ r p. of_index k r p) (λ r. refl) refl f
       g (computed o W64 y z) (computed_fits o W64 y z) (act_computing x.code x.body o W64 h.line _)
 
   -- ---- comparisons
@@ -115,19 +116,19 @@ module _ (x : Setting) (params slots : ℕ) (fit : SlotsFit x slots) {deep : ℕ
       (machine_value i.contents w ∷ machine_value below v ∷ st) st i (combined h (Compare c) v w s)
   compare_runs below h c _ _ _ _ s pc st i (compare_numbers _ _ (number_integer a) (number_integer b)) (of_integer _ y _) (of_integer _ z _) g f =
       pushes x params slots fit aside h truth_type _ s pc _ st i (comparing c false) h.line f (of_truth _) g
-      (ap (on_step x (placed pc (machine.Number z ∷ machine.Number y ∷ st) i)) (act_comparing x.code x.body c h.line _))
+      (behind_alone x (comparing c false) (comparing_alone c) _ ∙ ap (on_step x (placed pc (machine.Number z ∷ machine.Number y ∷ st) i)) (act_comparing x.code x.body c h.line _))
   compare_runs below h c _ _ _ _ s pc st i (compare_numbers _ _ (number_integer a) (number_index n)) (of_integer _ y _) (of_index _ z _) g f =
       pushes x params slots fit aside h truth_type _ s pc _ st i (comparing c false) h.line f (of_truth _) g
-      (ap (on_step x (placed pc (machine.Number z ∷ machine.Number y ∷ st) i)) (act_comparing x.code x.body c h.line _))
+      (behind_alone x (comparing c false) (comparing_alone c) _ ∙ ap (on_step x (placed pc (machine.Number z ∷ machine.Number y ∷ st) i)) (act_comparing x.code x.body c h.line _))
   compare_runs below h c _ _ _ _ s pc st i (compare_numbers _ _ (number_index k) (number_integer b)) (of_index _ y _) (of_integer _ z _) g f =
       pushes x params slots fit aside h truth_type _ s pc _ st i (comparing c false) h.line f (of_truth _) g
-      (ap (on_step x (placed pc (machine.Number z ∷ machine.Number y ∷ st) i)) (act_comparing x.code x.body c h.line _))
+      (behind_alone x (comparing c false) (comparing_alone c) _ ∙ ap (on_step x (placed pc (machine.Number z ∷ machine.Number y ∷ st) i)) (act_comparing x.code x.body c h.line _))
   compare_runs below h c _ _ _ _ s pc st i (compare_numbers _ _ (number_index k) (number_index n)) (of_index _ y _) (of_index _ z _) g f =
       pushes x params slots fit aside h truth_type _ s pc _ st i (comparing c false) h.line f (of_truth _) g
-      (ap (on_step x (placed pc (machine.Number z ∷ machine.Number y ∷ st) i)) (act_comparing x.code x.body c h.line _))
+      (behind_alone x (comparing c false) (comparing_alone c) _ ∙ ap (on_step x (placed pc (machine.Number z ∷ machine.Number y ∷ st) i)) (act_comparing x.code x.body c h.line _))
   compare_runs below h c _ _ _ _ s pc st i compare_truths (of_truth a) (of_truth b) g f =
       pushes x params slots fit aside h truth_type _ s pc _ st i (comparing c false) h.line f (of_truth _) g
-      (ap (on_step x (placed pc (machine_value i.contents (a_truth b) ∷ machine_value below (a_truth a) ∷ st) i)) (act_comparing x.code x.body c h.line _))
+      (behind_alone x (comparing c false) (comparing_alone c) _ ∙ ap (on_step x (placed pc (machine_value i.contents (a_truth b) ∷ machine_value below (a_truth a) ∷ st) i)) (act_comparing x.code x.body c h.line _))
 
   -- ---- prefixes
 
@@ -198,6 +199,24 @@ module _ (x : Setting) (params slots : ℕ) (fit : SlotsFit x slots) {deep : ℕ
 
   -- ---- names
 
+  -- the value of a name goes on the stack
+  pub named_loads : (h : Here) (n : Name) (s : State) (pc : ℕ) (st : List MachineValue) (i : Instance) →
+      is_bound h.scope.names n ≡ true → Agrees x params slots aside h s i →
+      Stands x.body pc (one (where_of params h) (instr.Load (slot_named (where_of params h) n))) →
+      Leads x (placed pc st i) (valued (suc pc) st (get_or s.names (bound_to h.scope.names n).place nothing) i)
+  named_loads h n s pc st i b g f =
+      let w = where_of params h in
+      let m = named IsOf h.scope.names s.names n g.typed b in
+      let place = (bound_to h.scope.names n).place in
+      let v = get_or s.names place nothing in
+      let there : slot w place < length i.frame.slots = omega (arith, fit pc _ f, g.slots_are) in
+      let below : place < length s.names = omega (arith, m.below, g.count) in
+      leads_by x (placed pc st i) (valued (suc pc) st v i) _ h.line f
+      (ap (on_step x (placed pc st i))
+      (ap (load (machine_of (placed pc st i)))
+      (slice_get-get_or i.frame.slots (slot w place) blank there ∙ ap Some (g.names place below))
+      ∙ load_value i.contents v (machine_of (placed pc st i))))
+
   pub named_runs : (h : Here) (n : Name) (s : State) (pc : ℕ) (st : List MachineValue) (i : Instance) →
       is_bound h.scope.names n ≡ true → Agrees x params slots aside h s i →
       Stands x.body pc (one (where_of params h) (instr.Load (slot_named (where_of params h) n))) →
@@ -205,20 +224,7 @@ module _ (x : Setting) (params slots : ℕ) (fit : SlotsFit x slots) {deep : ℕ
       (one (where_of params h) (instr.Load (slot_named (where_of params h) n))) pc st st i
       (named_value h n s)
   named_runs h n s pc st i b g f =
-      let w = where_of params h in
-      let m = named IsOf h.scope.names s.names n g.typed b in
-      let place = (bound_to h.scope.names n).place in
-      let v = get_or s.names place nothing in
-      let there : slot w place < length i.frame.slots = omega (arith, fit pc _ f, g.slots_are) in
-      let below : place < length s.names = omega (arith, m.below, g.count) in (
-        i,
-        leads_by x (placed pc st i) (valued (suc pc) st v i) _ h.line f
-            (ap (on_step x (placed pc st i))
-            (ap (load (machine_of (placed pc st i)))
-            (slice_get-get_or i.frame.slots (slot w place) blank there ∙ ap Some (g.names place below))
-            ∙ load_value i.contents v (machine_of (placed pc st i)))),
-        (m.holding, g),
-      )
+      (i, named_loads h n s pc st i b g f, ((named IsOf h.scope.names s.names n g.typed b).holding, g))
 
   -- ---- and, or
 

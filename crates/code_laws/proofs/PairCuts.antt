@@ -1,5 +1,5 @@
 -- Partitions of two others of one region: the points that both have, or either, or the first alone, colour by colour.
-use Rattle.std.proofs.Common.{◌≡◌, inl, inr, ℕ, suc, ◌<◌, ◌≤◌, ◌^◌, List, [], ◌∷◌, Bool, true, Some, refl, sym, ap, ◌∙◌, subst, arith, ⊎_elim}
+use Rattle.std.proofs.Common.{◌≡◌, inl, inr, ℕ, suc, ◌<◌, ◌≤◌, ◌^◌, List, [], ◌∷◌, Bool, true, false, Some, refl, sym, ap, ◌∙◌, subst, arith, ⊎_elim}
 use Rattle.std.specs.Prelude.{get_or, length, map, slice_get}
 use Rattle.std.proofs.lemmas.Bool.{or_cases}
 use Rattle.plain_values.specs.Points.{meet_of, minus_of, union_of}
@@ -34,6 +34,7 @@ use Rattle.machine_terms.specs.declared.value.RegionValue.{RegionValue}
 use Rattle.memory_laws.specs.Places.{number_at}
 use Rattle.code_rules.specs.Pieces.{op}
 use Rattle.code_rules.specs.Slots.{slot_bound, slot_named}
+use Rattle.machine_terms.proofs.StepKinds.{is_launch}
 use Rattle.code_laws.specs.Arguments.{ArePaired, IsCutName}
 use Rattle.code_laws.specs.Pointers.{IsCut}
 use Rattle.code_laws.specs.Simple.{IsPartition, a_partition_type}
@@ -44,7 +45,7 @@ use Rattle.code_laws.proofs.Cuts.{GoodCut, made_runs, sound_by, value_there}
 use Rattle.code_laws.proofs.Good.{valued}
 use Rattle.code_laws.proofs.Parts.{cut_of}
 use Rattle.code_laws.proofs.Rows.{three_least}
-use Rattle.code_laws.proofs.Runs.{leads_by}
+use Rattle.code_laws.proofs.Runs.{leads_alone}
 use Rattle.code_laws.proofs.Values.{named, not_true}
 
 -- ---- sets of two partitions
@@ -135,7 +136,7 @@ module _ (x : Setting) (params slots : ℕ) (fit : SlotsFit x slots) {deep : ℕ
 
   -- where the operation's instruction takes the two, and the region
   pair_runs : (sets : List (List ℕ) → List (List ℕ) → List (List ℕ)) (flag : Bool → Bool → Bool) → IsSetOperation sets flag →
-      (ins : Instr) (e : Bool) (h : Here) (p q : Name) (own : ℕ) (s : State) (pc : ℕ) (i : Instance) → ArePaired (where_of params h) p q →
+      (ins : Instr) → is_launch ins ≡ false → (e : Bool) (h : Here) (p q : Name) (own : ℕ) (s : State) (pc : ℕ) (i : Instance) → ArePaired (where_of params h) p q →
       Agrees x params slots aside h s i → Stands x.body pc (op ins h.line) → suc pc < 2 ^ 32 →
       (slot_named (where_of params h) p < slots) × (slot_named (where_of params h) q < slots)
       × (slot_bound (where_of params h) (parent_of (bound_to h.scope.names p).static_type) < slots) →
@@ -149,10 +150,10 @@ module _ (x : Setting) (params slots : ℕ) (fit : SlotsFit x slots) {deep : ℕ
       meant ≡ gives (partitioned a.root (flag a.disjoint b.disjoint) (sets a.sets b.sets)) s) →
       Comes x (placed pc [] i) (valued (suc pc) [])
       (GoodCut x params slots fit aside h (partition_type e (parent_of (bound_to h.scope.names p).static_type) own)) meant
-  pair_runs sets flag operation ins e h p q own s pc i pair g stands near room is meant means =
+  pair_runs sets flag operation ins alone e h p q own s pc i pair g stands near room is meant means =
       subst (Comes x j (valued (suc pc) []) (GoodCut x params slots fit aside h (partition_type e r own))) (sym (means a.partition b.partition a.is b.is)) (
         i,
-        leads_by x j _ ins h.line stands
+        leads_alone x j _ ins h.line alone stands
             (ap (on_step x j) acts ∙ made_runs x params slots fit aside value made (flag a.partition.disjoint b.partition.disjoint) [] [] pc i
             (sound_by parent.points made (flag a.partition.disjoint b.partition.disjoint) parts apart) near
             ∙ ap (λ n. GoesOn (valued (suc pc) [] (partitioned n (flag a.partition.disjoint b.partition.disjoint) made) i)) (sym a.cut.root)),
@@ -240,7 +241,7 @@ module _ (x : Setting) (params slots : ℕ) (fit : SlotsFit x slots) {deep : ℕ
   both_runs h p q e own s pc i pair g stands near =
       let w = where_of params h in
       let r = slot_bound w (parent_of (bound_to h.scope.names p).static_type) in
-      pair_runs both_sets both_flag both_operation (instr.Meet (slot_named w p) (slot_named w q) r) e h p q own s pc i pair g stands near
+      pair_runs both_sets both_flag both_operation (instr.Meet (slot_named w p) (slot_named w q) r) refl e h p q own s pc i pair g stands near
       (three_least (slot_named w p) (slot_named w q) r slots (fit pc _ stands)) (λ m. refl) _
       (λ a b. two_named (λ a b. gives (partitioned a.root (both_flag a.disjoint b.disjoint) (both_sets a.sets b.sets)) s) _ _ a b)
 
@@ -256,7 +257,7 @@ module _ (x : Setting) (params slots : ℕ) (fit : SlotsFit x slots) {deep : ℕ
   either_runs h p q e own s pc i pair g stands near =
       let w = where_of params h in
       let r = slot_bound w (parent_of (bound_to h.scope.names p).static_type) in
-      pair_runs either_sets (λ c d. either_flag) either_operation (instr.Join (slot_named w p) (slot_named w q) r) e h p q own s pc i pair g stands near
+      pair_runs either_sets (λ c d. either_flag) either_operation (instr.Join (slot_named w p) (slot_named w q) r) refl e h p q own s pc i pair g stands near
       (three_least (slot_named w p) (slot_named w q) r slots (fit pc _ stands)) (λ m. refl) _
       (λ a b. two_named (λ a b. gives (partitioned a.root either_flag (either_sets a.sets b.sets)) s) _ _ a b)
 
@@ -271,6 +272,6 @@ module _ (x : Setting) (params slots : ℕ) (fit : SlotsFit x slots) {deep : ℕ
   minus_runs h p q e own s pc i pair g stands near =
       let w = where_of params h in
       let r = slot_bound w (parent_of (bound_to h.scope.names p).static_type) in
-      pair_runs minus_sets (λ c d. minus_flag c) minus_operation (instr.Minus (slot_named w p) (slot_named w q) r) e h p q own s pc i pair g stands near
+      pair_runs minus_sets (λ c d. minus_flag c) minus_operation (instr.Minus (slot_named w p) (slot_named w q) r) refl e h p q own s pc i pair g stands near
       (three_least (slot_named w p) (slot_named w q) r slots (fit pc _ stands)) (λ m. refl) _
       (difference_means h p q s)

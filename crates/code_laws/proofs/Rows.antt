@@ -91,11 +91,18 @@ plain_kept _ old _ (simple_space k) (of_space _ n _) = refl
 plain_kept _ old _ (simple_index k) (of_index _ z _) = refl
 
 -- the greater of two numbers
-greatest_least : (a b n : ℕ) → greatest a b ≤ n → (a ≤ n) × (b ≤ n)
+pub greatest_least : (a b n : ℕ) → greatest a b ≤ n → (a ≤ n) × (b ≤ n)
 greatest_least a b n l = ⊎_elim
     (λ e. let g : b ≤ n = subst (λ c. cond c b a ≤ n) (lt-ltb a b e) l in (omega (arith, e, g), g))
     (λ e. let g : a ≤ n = subst (λ c. cond c b a ≤ n) (le-ltb a b e) l in (g, omega (arith, e, g)))
     (cases_lt a b)
+
+pub least_greatest : (a b n : ℕ) → a ≤ n → b ≤ n → greatest a b ≤ n
+least_greatest a b n p q = by (nat_lt a b)
+  where
+    by : (c : Bool) → cond c b a ≤ n
+    by true = q
+    by false = p
 
 pub three_least : (a b c n : ℕ) → above_all (a ∷ b ∷ c ∷ []) ≤ n → (suc a ≤ n) × (suc b ≤ n) × (suc c ≤ n)
 three_least a b c n l =

@@ -1,19 +1,23 @@
 -- Runs in a row.
-use Rattle.std.proofs.Common.{◌≡◌, ℕ, suc, ◌+◌, Option, Some, refl, ap, ◌∙◌, arith}
+use Rattle.std.proofs.Common.{◌≡◌, ℕ, suc, ◌+◌, false, Option, Some, refl, sym, ap, ◌∙◌, arith}
+use Rattle.std.proofs.lemmas.Bool.{false≢true}
 use Rattle.machine_terms.specs.Orders.{until_over}
 use Rattle.regent_tree.specs.declared.outcome.Fault.{Fault}
 use Rattle.regent_tree.specs.Laws.{Leaves}
 use Rattle.regent_tree.specs.Running.{State, Run, Result, gives, fails, and_then}
 use Rattle.task_code.specs.declared.code.Line.{Line}
 use Rattle.task_code.specs.declared.instr.Instr.{Instr}
+use Rattle.task_code.specs.declared.instr.Instr.TheVariants as instr
 use Rattle.machine_terms.specs.Jumps.{fetch}
 use Rattle.machine_terms.specs.Segments.{act, act_at}
 use Rattle.machine_terms.specs.declared.order.Ended.{Ended}
 use Rattle.machine_terms.specs.declared.order.Ended.TheVariants.{Broke}
 use Rattle.machine_terms.specs.declared.order.Instance.{Instance}
+use Rattle.machine_terms.specs.declared.order.Resumed.{Resumed}
 use Rattle.machine_terms.specs.declared.order.Resumed.TheVariants.{GoesOn, IsOver}
+use Rattle.machine_terms.proofs.StepKinds.{is_launch}
 use Rattle.code_rules.specs.Pieces.{line_of}
-use Rattle.code_laws.specs.Steps.{Setting, machine_of, on_step, run_steps, Leads, Ends}
+use Rattle.code_laws.specs.Steps.{Setting, behind, behind_line, machine_of, on_step, run_steps, Leads, Ends}
 use Rattle.code_laws.specs.Standing.{Comes}
 use Rattle.code_laws.proofs.Growing.{goes_grow, more_none, more_twice}
 
@@ -36,15 +40,15 @@ module _ (x : Setting) where
 
   -- one instruction
   acted : (i : Instance) (o : Option Line) → fetch x.body i.frame.pc ≡ o → (k n : ℕ) → n ≡ 1 + k →
-      run_steps x n i ≡ until_over (on_step x i (act_at x.code x.body o (machine_of i))) (run_steps x k)
+      run_steps x n i ≡ until_over (behind_line o (on_step x i (act_at x.code x.body o (machine_of i)))) (run_steps x k)
   acted i o f k n e =
       let d : n ≡ suc k = omega arith in
       ap (λ m. run_steps x m i) d
-      ∙ ap (λ p. until_over (on_step x i (act_at x.code x.body p (machine_of i))) (run_steps x k)) f
+      ∙ ap (λ p. until_over (behind_line p (on_step x i (act_at x.code x.body p (machine_of i)))) (run_steps x k)) f
 
   pub leads_by : (i j : Instance) (ins : Instr) (line : ℕ) →
       fetch x.body i.frame.pc ≡ Some (line_of ins line) →
-      on_step x i (act x.code x.body ins line (machine_of i)) ≡ GoesOn j → Leads x i j
+      behind ins (on_step x i (act x.code x.body ins line (machine_of i))) ≡ GoesOn j → Leads x i j
   leads_by i j ins line f e = record {
     steps = 1;
     by = λ k n d. acted i (Some (line_of ins line)) f k n d
@@ -54,12 +58,27 @@ module _ (x : Setting) where
 
   pub ends_by : (i : Instance) (e : Ended) (ins : Instr) (line : ℕ) →
       fetch x.body i.frame.pc ≡ Some (line_of ins line) →
-      on_step x i (act x.code x.body ins line (machine_of i)) ≡ IsOver e → Ends x i e
+      behind ins (on_step x i (act x.code x.body ins line (machine_of i))) ≡ IsOver e → Ends x i e
   ends_by i e ins line f d = record {
     steps = 1;
     by = λ k n c. acted i (Some (line_of ins line)) f k n c
         ∙ ap (λ r. until_over r (run_steps x k)) d;
   }
+
+  -- behind an instruction that is no launch no fault is due
+  pub behind_alone : (ins : Instr) → is_launch ins ≡ false → (r : Resumed) → behind ins r ≡ r
+  behind_alone (instr.Launch task s line args) alone r = absurd (false≢true (sym alone))
+  behind_alone _ alone r = refl
+
+  pub leads_alone : (i j : Instance) (ins : Instr) (line : ℕ) → is_launch ins ≡ false →
+      fetch x.body i.frame.pc ≡ Some (line_of ins line) →
+      on_step x i (act x.code x.body ins line (machine_of i)) ≡ GoesOn j → Leads x i j
+  leads_alone i j ins line alone f e = leads_by i j ins line f (behind_alone ins alone _ ∙ e)
+
+  pub ends_alone : (i : Instance) (e : Ended) (ins : Instr) (line : ℕ) → is_launch ins ≡ false →
+      fetch x.body i.frame.pc ≡ Some (line_of ins line) →
+      on_step x i (act x.code x.body ins line (machine_of i)) ≡ IsOver e → Ends x i e
+  ends_alone i e ins line alone f d = ends_by i e ins line f (behind_alone ins alone _ ∙ d)
 
   -- what is said of an instance and a result, and holds too of an instance that leads there
   pub record Said {B : Type 0} (T : Instance → Result B → Type 0) : Type 0 where

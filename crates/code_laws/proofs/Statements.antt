@@ -195,7 +195,7 @@ module _ (x : Setting) (params slots : ℕ) (fit : SlotsFit x slots) (counts : C
     form_runs aside h (var_form n (Some t) (Some start)) s pc i low fine g f =
         begun_runs x params slots fit counts aside h n (Some t) start s pc i low fine.1 fine.2 g f
     form_runs aside h (for_in_form demanded n domain body) s pc i low fine g f =
-        domains_run x params slots fit counts aside h demanded n domain body s pc i low _ fine g f
+        domains_run x params slots fit counts aside h demanded n domain body s pc i low fine g f
         (λ fine_body aside2 s5 p j5 g5 f5. block_runs aside2 (looping h n (taken_from (typed (where_of params h) domain))) body s5 p j5 (omega (arith, low)) fine_body g5 f5)
     form_runs aside h (assign_form n (field_step f2 no_step) how.Set e) s pc i low fine g f =
         let w = where_of params h in

@@ -51,7 +51,7 @@ use Rattle.code_laws.specs.Handing.{AreTypedBy, forms_by, takes_by, taking_of}
 use Rattle.code_laws.specs.Pointers.{HasZero, given_pointed, zero_index, zero_scalar}
 use Rattle.code_laws.specs.Programs.{IsGiven, called_setting, gives_index, gives_nothing, gives_scalar}
 use Rattle.code_laws.specs.Simple.{IsRegion, a_region_type, scalar_integer, scalar_truth, term_in}
-use Rattle.code_laws.specs.Standing.{Answering, AreTaken, AreUnder, Does, IsFramed, IsInside, IsOf, IsTaken, LiesIn, Matches, Returns, Stands, Takes, back, both_back, both_broke, called_with, of_index, of_integer, of_partition, of_pointer, of_region, of_truth, takes_partition, takes_pointer, takes_region, takes_value}
+use Rattle.code_laws.specs.Standing.{AreFollowed, Answering, AreTaken, AreUnder, Does, IsFramed, IsInside, IsOf, IsTaken, LiesIn, Matches, Returns, Stands, Takes, back, both_back, both_broke, called_with, of_index, of_integer, of_partition, of_pointer, of_region, of_truth, takes_partition, takes_pointer, takes_region, takes_value}
 use Rattle.code_laws.specs.Steps.{Ends, Setting, Taking, placed}
 use Rattle.code_laws.specs.Taking.{AreParts, IsGivenAs, IsHadBy, IsSubregion, given_region, needs_taken, pairs_in, pairs_taken, up_itself}
 use Rattle.code_laws.proofs.Under.{sub_itself}
@@ -60,6 +60,7 @@ use Rattle.code_laws.proofs.Counts.{counts_down}
 use Rattle.code_laws.proofs.Entering.{Enters, entered_pointed, params_placed_by, taken_enters}
 use Rattle.code_laws.proofs.Openings.{before_all, fits_slots, names_typed, opens, params_from, params_length, taken_length, types_in, types_length}
 use Rattle.code_laws.proofs.Requiring.{asked_covered}
+use Rattle.code_laws.proofs.LaunchFollowed.{launches_followed}
 use Rattle.code_laws.proofs.Places.{stands_alone}
 use Rattle.code_laws.proofs.Runs.{ends_by, leads_end}
 use Rattle.code_laws.proofs.Segments.{segments_give}
@@ -310,20 +311,23 @@ module _ (handing keeping : Bool) (tree : Tree) (turns : ℕ) (few : turns < 2 ^
       subst (Matches tree (code_of tree) (Returns tree task) store (numbers c) (meant_by task store r)) (sym ran) done.2
 
   -- calls are answered at each depth
-  pub answering : (more depth : ℕ) (before : List ℕ) (args : List Value) (t : TaskTree) → depth + more ≡ 64 →
+  pub answering : (more depth : ℕ) (before : List ℕ) (args : List Value) (t : TaskTree) → AreFollowed (task_code tree t).body → depth + more ≡ 64 →
       Answering (called_setting (forms_by handing keeping tree t) tree turns more depth before args t) tree (calls_at tree turns more)
-  answering zero depth before args t e = record {
+  answering zero depth before args t behind e = record {
     code_is = refl;
     few = few;
+    followed = behind;
     at_end = λ deep line task vs store. refl;
     below = λ shallow line task vs store c takes holds. absurd (omega (arith, e, shallow));
   }
-  answering (suc more) depth before args t e = record {
+  answering (suc more) depth before args t behind e = record {
     code_is = refl;
     few = few;
+    followed = behind;
     at_end = λ deep line task vs store. absurd (omega (arith, e, deep));
     below = λ shallow line task vs store c takes holds.
         body_matches more (suc depth) (takes_by handing tree t) t task vs store c refl takes holds
-        (answering more (suc depth) (numbers c) vs (task_named tree task) (omega (arith, e)))
+        (answering more (suc depth) (numbers c) vs (task_named tree task)
+        (launches_followed tree (task_named tree task) (are (place_of_task tree task) (task_named tree task) takes.there).small) (omega (arith, e)))
         (calls_drop_roots tree turns (suc more) line task vs store);
   }

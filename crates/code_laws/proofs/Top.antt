@@ -34,6 +34,7 @@ use Rattle.regent_tree.specs.declared.outcome.Ending.{Ending}
 use Rattle.regent_tree.specs.declared.outcome.RootImage.{RootImage}
 use Rattle.machine_terms.specs.declared.order.Instance.{Instance}
 use Rattle.code_laws.proofs.Kept.{none_kept}
+use Rattle.code_laws.proofs.LaunchFollowed.{launches_followed}
 use Rattle.code_laws.proofs.Tasks.{answering}
 use Rattle.code_laws.proofs.Values.{not_true, number_inside}
 use Rattle.task_code.specs.declared.code.NeedCode.{NeedCode}
@@ -216,7 +217,7 @@ handed_end : (handing keeping : Bool) (tree : Tree) (inputs : List ℤ) (turns :
     × (fits_spaces (code_of tree) (meaning tree inputs turns) ≡ true)
 handed_end handing keeping tree inputs turns few are p =
     let t = task_named tree (entry_name tree) in
-    typed_run_ends (forms_by handing keeping tree t) tree inputs turns (λ e. answering handing keeping tree turns few are 63 1 [] [] t refl) p
+    typed_run_ends (forms_by handing keeping tree t) tree inputs turns (λ e. answering handing keeping tree turns few are 63 1 [] [] t (launches_followed tree t p.small) refl) p
 
 pub regions_are_handed_as_meant : RegionsAreHandedAsMeant
 regions_are_handed_as_meant keeping tree inputs turns few are p = (handed_end true keeping tree inputs turns few are p).0

@@ -1,6 +1,6 @@
 -- Reads, writes and reductions at a point of a root: a part that isn't held is fetched, and the
 -- instruction runs again.
-use Rattle.std.proofs.Common.{◌≡◌, ◌≢◌, inl, inr, ℕ, zero, suc, ℤ, List, [], ◌∷◌, ◌++◌, ◌⊎◌, true, Option, Some, None, refl, sym, ap, ◌∙◌, subst}
+use Rattle.std.proofs.Common.{◌≡◌, ◌≢◌, inl, inr, ℕ, zero, suc, ℤ, List, [], ◌∷◌, ◌++◌, ◌⊎◌, false, true, Option, Some, None, refl, sym, ap, ◌∙◌, subst}
 use Rattle.std.specs.Prelude.{slice_get}
 use Rattle.std.proofs.lemmas.Option.{same_Some}
 use Rattle.lane_kernels.specs.declared.numbers.Mode.{Mode}
@@ -31,9 +31,10 @@ use Rattle.memory_laws.specs.Touches.{Covers, IsCovered, changed}
 use Rattle.memory_laws.proofs.Fetched.{fetched_holds}
 use Rattle.memory_laws.proofs.Finding.{allowed_is_written, covered_is_found, fetched_is_found, root_is_there}
 use Rattle.memory_laws.proofs.Touching.{found_is_read, set_cells_hold}
+use Rattle.machine_terms.proofs.StepKinds.{is_launch}
 use Rattle.code_laws.specs.Steps.{Setting, machine_of, placed, on_step, Leads}
 use Rattle.code_laws.specs.Standing.{Stands}
-use Rattle.code_laws.proofs.Runs.{leads_by, leads_twice}
+use Rattle.code_laws.proofs.Runs.{leads_alone, leads_by, leads_twice}
 
 -- the instance with other parts
 abbrev pub parted : List Part → Instance → Instance
@@ -69,7 +70,7 @@ module _ (x : Setting) where
   -- Where the part is there: a touch is made. An instruction that wants its part runs again behind the
   -- fetch.
   pub touches : (i : Instance) (pc line place f n : ℕ) (st : List Value) (ins : Instr) (a : Mode) (store : Store)
-      (T : Instance → Type 0) → Holds x.code store (memory_of i) →
+      (T : Instance → Type 0) → is_launch ins ≡ false → Holds x.code store (memory_of i) →
       IsCovered i.contents i.needs (record { root = place; field = f; point = n; access = a }) →
       Stands x.body pc (op ins line) →
       (find i.frame.needs.items i.parts (number_at i.contents place) f n ≡ missing →
@@ -79,7 +80,7 @@ module _ (x : Setting) where
       ((ps : List Part) → Holds x.code store (memory_of (parted ps i)) →
       IsFound x.code (memory_of (parted ps i)) a (number_at i.contents place) f n → T (placed pc st (parted ps i))) →
       T (placed pc st i)
-  touches i pc line place f n st ins a store T h covers stands wants before more =
+  touches i pc line place f n st ins a store T alone h covers stands wants before more =
       over (covered_is_found x.code store (memory_of i) (record { root = place; field = f; point = n; access = a }) h covers)
     where
       over : IsMissing (memory_of i) (number_at i.contents place) f n
@@ -87,7 +88,7 @@ module _ (x : Setting) where
       over (inr found) = more i.parts h found
       over (inl q) =
           let ps = i.parts ++ part_from x.code i.contents i.needs (number_at i.contents place) f ∷ [] in
-          before _ _ (leads_by x _ _ ins line stands (wants q.0))
+          before _ _ (leads_alone x _ _ ins line alone stands (wants q.0))
           (more ps (fetched_holds x.code store i place f h (root_is_there x.code store (memory_of i) place f n a h covers) q.1)
           (fetched_is_found x.code store i (record { root = place; field = f; point = n; access = a }) h covers q.1))
 
@@ -108,7 +109,7 @@ module _ (x : Setting) where
   reads i pc line place f n z st rs store h covers stands to =
       let st2 = Number z ∷ st in
       let root = number_at i.contents place in
-      touches i pc line place f n st2 (instr.Read rs f) mode.Read store (HasRead store place f n pc st i) h covers stands
+      touches i pc line place f n st2 (instr.Read rs f) mode.Read store (HasRead store place f n pc st i) refl h covers stands
       (λ q. ap (λ b. on_step x (placed pc st2 i) (machine_reads f line b st (machine_of (placed pc st2 i)))) to
       ∙ ap (λ b. on_step x (placed pc st2 i) (read_cell root f b st (machine_of (placed pc st2 i)))) q)
       (λ j k l t. (t.0, leads_twice x l t.1, t.2))
@@ -134,7 +135,7 @@ module _ (x : Setting) where
       × Holds x.code (write_at store place f n z) (memory_of (parted ps i))
 
   pub sets : (a : Mode) → a ≢ mode.Read → (i : Instance) (pc line place f n : ℕ) (p v : ℤ) (st : List Value) (rs : List ℕ)
-      (w : Width) (ins : Instr) (store : Store) →
+      (w : Width) (ins : Instr) (store : Store) → is_launch ins ≡ false →
       ((m : Machine) → act x.code x.body ins line m ≡ set a rs f w line m) →
       w ≡ width_of (kind_of x.code i.contents (number_at i.contents place) f) →
       IsKept (kind_of x.code i.contents (number_at i.contents place) f) (changed a w (read_at store place f n) v) →
@@ -143,11 +144,11 @@ module _ (x : Setting) where
       Stands x.body pc (op ins line) →
       aim (machine_of (placed pc (Number p ∷ Number v ∷ st) i)) rs (target_kept p) ≡ aims (number_at i.contents place) n →
       HasSet store place f n (changed a w (read_at store place f n) v) pc st i (placed pc (Number p ∷ Number v ∷ st) i)
-  sets a ne i pc line place f n p v st rs w ins store by wide kept h covers stands to =
+  sets a ne i pc line place f n p v st rs w ins store alone by wide kept h covers stands to =
       let st2 = Number p ∷ Number v ∷ st in
       let root = number_at i.contents place in
       let new = changed a w (read_at store place f n) v in
-      touches i pc line place f n st2 ins a store (HasSet store place f n new pc st i) h covers stands
+      touches i pc line place f n st2 ins a store (HasSet store place f n new pc st i) alone h covers stands
       (λ q. ap (on_step x (placed pc st2 i)) (by (machine_of (placed pc st2 i)))
       ∙ ap (λ b. on_step x (placed pc st2 i) (set_at a w f line v b st (machine_of (placed pc st2 i)))) to
       ∙ ap (λ b. on_step x (placed pc st2 i) (set_cell a w root f n v b st (machine_of (placed pc st2 i)))) q)
@@ -159,7 +160,7 @@ module _ (x : Setting) where
       let same : changed a (width_of t.kind) (read_at store place f n) v ≡ new =
       ap (λ u. changed a u (read_at store place f n) v) (sym wide2) in (
         set_part ps root f n y.0,
-        leads_by x _ _ ins line stands
+        leads_alone x _ _ ins line alone stands
             (ap (on_step x (placed pc st2 (parted ps i))) (by m)
             ∙ ap (λ b. on_step x (placed pc st2 (parted ps i)) (set_at a w f line v b st m))
             (aim_parted i pc st2 ps rs (target_kept p) ∙ to)

@@ -104,7 +104,7 @@ module _ (x : Setting) (params slots : ℕ) (fit : SlotsFit x slots) {deep : ℕ
       let c : IsKept kind (kept_number v) = (is.fits, is.same) in
       let stays : wrapped w (kept_number v) ≡ kept_number v = int_wrap_fits (std_width w) (kept_number v) c.0 in
       let d = sets x mode.Write no_read i pc h.line q.root p n z (kept_number v) st rs w
-      (instr.Write rs p w) s.store (λ m. refl) (ap width_of (sym r.kind_is))
+      (instr.Write rs p w) s.store refl (λ m. refl) (ap width_of (sym r.kind_is))
       (subst (λ k. IsKept k (wrapped w (kept_number v))) (sym r.kind_is) (subst (IsKept kind) (sym stays) c))
       g.memory r.covers
       (subst (λ k. Stands x.body pc (op (instr.Write rs k (width_of (field_kind h.tree (space_in t) k))) h.line)) same stands) to in
@@ -139,7 +139,7 @@ module _ (x : Setting) (params slots : ℕ) (fit : SlotsFit x slots) {deep : ℕ
       let new = applied o w (read_at s.store q.root p n) (wrapped w y) in
       let is = integer_kept_as declared wd new fits (closed o w _ _) in
       let d = sets x (mode.Reduce o) (no_fold o) i pc h.line q.root p n z y st rs w
-      (instr.Reduce rs p o w) s.store (λ m. refl) (ap width_of (sym r.kind_is))
+      (instr.Reduce rs p o w) s.store refl (λ m. refl) (ap width_of (sym r.kind_is))
       (subst (λ k. IsKept k new) (sym r.kind_is) (is.fits, is.same))
       g.memory r.covers
       (subst (λ k. Stands x.body pc (op (instr.Reduce rs k o (width_of (field_kind h.tree (space_in t) k))) h.line)) same stands) to in

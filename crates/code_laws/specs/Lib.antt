@@ -25,3 +25,4 @@ pub mod CallExample
 pub mod HandingExample
 pub mod Privileges
 pub mod WrittenForms
+pub mod LaunchExample

@@ -5,6 +5,7 @@ use Rattle.plain_values.specs.Points.{IsPoints, has}
 use Rattle.lane_kernels.specs.Numbers.{FitsWidth}
 use Rattle.lane_kernels.specs.declared.numbers.Width.TheVariants.{W64}
 use Rattle.lane_kernels.specs.declared.numbers.Width.{Width}
+use Rattle.index_launch.specs.declared.points.LaunchArg.{LaunchArg}
 use Rattle.task_code.specs.declared.code.Line.{Line}
 use Rattle.task_code.specs.declared.instr.Instr.TheVariants as instr
 use Rattle.region_tree.specs.declared.tree.RootId.{RootId}
@@ -237,10 +238,16 @@ abbrev pub called_with : Tree → ℕ → ℕ → Name → List Value → List R
 called_with tree turns depth task vs needs c = begun
     (opening turns depth (place_of_task tree task) (task_code tree (task_named tree task)) (map (machine_value c) vs)) needs c
 
+-- behind each launch something stands
+abbrev pub AreFollowed : List Line → Type 0
+AreFollowed body = (pc task s line loop_line : ℕ) (args : List LaunchArg) →
+    fetch body pc ≡ Some (line_of (instr.Launch task s line args) loop_line) → suc pc < 2 ^ 32
+
 -- What calls give, children give; at depth 64 there is none, and the call is a fault.
 pub record Answering (x : Setting) (tree : Tree) (calls : Calls) : Type 0 where
   pub code_is : x.code ≡ code_of tree
   pub few : x.turns < 2 ^ 64
+  pub followed : AreFollowed x.body
   pub at_end : 64 ≤ x.depth → (line : ℕ) (task : Name) (vs : List Value) (store : Store) →
       calls line task vs store ≡ broke (record { kind = Depth; line = line }) []
   pub below : x.depth < 64 → (line : ℕ) (task : Name) (vs : List Value) (store : Store) (c : Contents) →

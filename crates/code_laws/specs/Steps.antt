@@ -1,7 +1,8 @@
 -- A task instance in a run in order, instruction by instruction: what a segment stops for is done at
 -- once, and the instance goes on.
-use Rattle.std.specs.Prelude.{◌≡◌, Bool, false, ℕ, zero, suc, ◌+◌, List, ◌++◌, None, Option}
+use Rattle.std.specs.Prelude.{◌≡◌, Bool, false, ℕ, zero, suc, ◌+◌, List, ◌++◌, None, Option, Some}
 use Rattle.region_tree.specs.declared.tree.RootId.{RootId}
+use Rattle.regent_tree.specs.declared.outcome.Fault.{Fault}
 use Rattle.regent_tree.specs.Syntax.{Tree}
 use Rattle.regent_tree.specs.Values.{Value as Meant}
 use Rattle.regent_tree.specs.declared.facts.Colour.{Colour}
@@ -9,14 +10,18 @@ use Rattle.regent_tree.specs.declared.typing.StaticType.{StaticType}
 use Rattle.task_code.specs.declared.code.Code.{Code}
 use Rattle.task_code.specs.declared.code.Line.{Line}
 use Rattle.task_code.specs.declared.code.NeedCode.{NeedCode}
+use Rattle.task_code.specs.declared.instr.Instr.{Instr}
+use Rattle.task_code.specs.declared.instr.Instr.TheVariants as instr
 use Rattle.machine_terms.specs.declared.order.Ended.{Ended}
 use Rattle.machine_terms.specs.declared.order.Ended.TheVariants.{Broke}
 use Rattle.machine_terms.specs.declared.order.Instance.{Instance}
 use Rattle.machine_terms.specs.declared.order.Resumed.{Resumed}
-use Rattle.machine_terms.specs.declared.order.Resumed.TheVariants.{GoesOn}
+use Rattle.machine_terms.specs.declared.order.Resumed.TheVariants.{GoesOn, IsOver}
+use Rattle.machine_terms.specs.declared.outcome.Yield.TheVariants as yield
 use Rattle.machine_terms.specs.declared.value.Value.{Value}
+use Rattle.machine_terms.specs.Jumps.{fetch}
 use Rattle.machine_terms.specs.Machine.{Machine, Stepped, goes, prints, stops}
-use Rattle.machine_terms.specs.Orders.{Runner, resume_in, until_over}
+use Rattle.machine_terms.specs.Orders.{Runner, conclude, resume_in, until_over}
 use Rattle.machine_terms.specs.Segments.{frame_after, step}
 
 -- a task that may have regions among its parameters: how many parameters there are, what it needs of them, which
@@ -72,8 +77,25 @@ on_step x i (prints t m) = GoesOn (record (has_machine m i) { text = i.text ++ t
 on_step x i (stops y m) =
     resume_in x.code x.turns x.child (frame_after y m.frame) y (has_machine m i)
 
+-- a fault that a launch keeps for later comes where the instance would go on
+abbrev pub now_or_due : Option Fault → Instance → Resumed
+now_or_due None i = GoesOn i
+now_or_due (Some f) i = IsOver (conclude (yield.Fault f) i)
+
+abbrev pub due : Resumed → Resumed
+due (GoesOn i) = now_or_due i.frame.later i
+due (IsOver e) = IsOver e
+
+abbrev pub behind : Instr → Resumed → Resumed
+behind (instr.Launch task s line args) r = due r
+behind _ r = r
+
+abbrev pub behind_line : Option Line → Resumed → Resumed
+behind_line None r = r
+behind_line (Some l) r = behind l.instr r
+
 abbrev pub advance : Setting → Instance → Resumed
-advance x i = on_step x i (step x.code x.body (machine_of i))
+advance x i = behind_line (fetch x.body i.frame.pc) (on_step x i (step x.code x.body (machine_of i)))
 
 -- at most so many instructions and waits
 abbrev pub run_steps : Setting → ℕ → Instance → Ended

@@ -8,6 +8,7 @@ ghost use Rattle.code_laws.specs.Example.{ExampleHolds};
 ghost use Rattle.code_laws.specs.GivenExample.{GivenExampleHolds};
 ghost use Rattle.code_laws.specs.Handing.{HandingProgramsEndWell, RegionsAreHandedAsMeant};
 ghost use Rattle.code_laws.specs.HandingExample.{HandingExampleHolds};
+ghost use Rattle.code_laws.specs.LaunchExample.{LaunchExampleHolds};
 ghost use Rattle.code_laws.specs.LocalExample.{LocalExampleHolds};
 ghost use Rattle.code_laws.specs.MinusExample.{MinusExampleHolds};
 ghost use Rattle.code_laws.specs.PointerCallExample.{PointerCallExampleHolds};
@@ -149,6 +150,13 @@ pub fn given_example_holds()
 #[tactic(auto, using(crate::proofs::MinusExample::minus_example_holds))]
 pub fn minus_example_holds()
     ensures { MinusExampleHolds }
+{}
+
+/// A program with a launch over the parts of a partition, of which each premise of the law on accepted programs holds; with more
+/// colours than parts the calls before the fault print.
+#[tactic(auto, using(crate::proofs::LaunchExample::launch_example_holds))]
+pub fn launch_example_holds()
+    ensures { LaunchExampleHolds }
 {}
 
 /// A program and a number of which each premise of the law holds.

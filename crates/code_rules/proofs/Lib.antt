@@ -2,6 +2,7 @@ pub mod Bodies
 pub mod ExpressionSizes
 pub mod FewSlots
 pub mod Laid
+pub mod LaunchCodes
 pub mod LowSlots
 pub mod PlainCode
 pub mod Sizes

@@ -9,21 +9,26 @@ use Rattle.regent_tree.specs.Limits.{number_of_nodes, nodes, parts_of_arms, part
 use Rattle.regent_tree.specs.Scopes.{Scope, past}
 use Rattle.regent_tree.specs.StaticTypes.{field_type, task_named}
 use Rattle.regent_tree.specs.Syntax.{Name, Tree, Expression, number_expr, truth_expr, chain_expr, prefix_expr, call_expr, access_expr, convert_expr, is_null_expr, null_expr, cast_expr, space_expr, Steps, no_step, field_step, at_step, Initializer, region_initializer, equal_initializer, by_field_initializer, image_initializer, preimage_initializer, both_initializer, either_initializer, plain_initializer, a_statement, Form, var_form, if_form, while_form, for_in_form, for_to_form, do_form, fill_form, assert_form, print_form, call_form, assign_form, return_form, Block, no_statement, then_statement, Arms, no_arm, an_arm, Otherwise, no_else, else_block}
-use Rattle.regent_tree.specs.Typing.{arithmetic_type, params_at, parent_of, reaches_of, scope_after, scope_after_arms, scope_after_block, scope_after_else, stepped_type, taken_from, type_of_element, type_of_field, var_type, width_of_type}
+use Rattle.regent_tree.specs.Typing.{arithmetic_type, is_pointer, params_at, parent_of, reaches_of, scope_after, scope_after_arms, scope_after_block, scope_after_else, stepped_type, taken_from, type_of_element, type_of_field, var_type, width_of_type}
 use Rattle.regent_tree.specs.declared.statement.How.{How}
 use Rattle.regent_tree.specs.declared.statement.How.TheVariants as how
 use Rattle.regent_tree.specs.declared.types.TypeTerm.{TypeTerm}
 use Rattle.regent_tree.specs.declared.typing.StaticType.{StaticType}
 use Rattle.task_code.specs.declared.instr.Instr.TheVariants as instr
+use Rattle.check_rules.specs.launches.Shapes.{shape_of}
 use Rattle.code_rules.specs.Assignments.{fill_code, fold_code, put_code, right_code, set_code, slot_behind, target_code}
 use Rattle.code_rules.specs.Initializers.{beside_code, declared_code, initializer_code, names_child, new_place, plain_code}
 use Rattle.code_rules.specs.Instructions.{one, slot_after}
 use Rattle.code_rules.specs.Expressions.{expr_code}
+use Rattle.std.specs.Prelude.{◌&&◌}
+use Rattle.code_rules.specs.Launches.{is_launch}
+use Rattle.check_rules.specs.types.Sorts.{is_space}
 use Rattle.code_rules.specs.Pieces.{Piece, ◌⨟◌, empty}
 use Rattle.code_rules.specs.Slots.{Where, beside, bound, counter, own_slot, slot, slot_bound, slot_named, spare, typed}
-use Rattle.code_rules.specs.Statements.{after_arm, after_arms, after_form, arms_code, block_code, else_code, form_code, looping, on_line}
+use Rattle.code_rules.specs.Statements.{after_arm, after_arms, after_form, arms_code, block_code, else_code, form_code, looping, on_line, points_code}
 use Rattle.code_rules.specs.Used.{above_all}
 use Rattle.code_rules.proofs.ExpressionSizes.{both_nodes}
+use Rattle.code_rules.proofs.LaunchCodes.{launch_fits}
 use Rattle.code_rules.proofs.LowSlots.{Fits, IsLow, Placed, beside_low, bound_low, counter_low, either_fits, free, named_low, own_low, place_named, reaches_low, slot_low, spare_low, three_low}
 use Rattle.code_rules.proofs.PlainCode.{plain_either, written_either}
 use Rattle.code_rules.proofs.SlotsOfExpressions.{after_low, converted_fits, expr_fits, exprs_fits}
@@ -236,9 +241,17 @@ mutual
       let c = counter_low m w place below in
       let s = beside_low m w place below in
       let a = expr_fits m w 0 domain p (omega (arith, h, k)) in
-      let b = block_fits m (looping w n (taken_from (typed w domain))) body (below, p) (omega (arith, h, k)) in
+      let inner = looping w n (taken_from (typed w domain)) in
+      let b = block_fits m inner body (below, p) (omega (arith, h, k)) in
       let head = three_low m (beside w place) (counter w place) (slot w place) s c x in
-      (a, (s, (free m, (c, (λ to. head, b)))))
+      let points = points_code w (is_pointer (taken_from (typed w domain))) (block_code inner body) in (
+        a,
+        (
+          s,
+          launch_fits m w inner n (is_space (typed w domain) && is_launch (shape_of w.tree w.scope (for_in_form demanded n domain body))) body points
+              (free m, (c, (λ to. head, b))) (below, p) (omega (arith, h, k)) s,
+        ),
+      )
   form_fits m w (for_to_form demanded n from to body) p h =
       let k = both_nodes (parts_of_expression from) (parts_of_expression to ++ parts_of_block body) in
       let l = both_nodes (parts_of_expression to) (parts_of_block body) in

@@ -8,17 +8,21 @@ use Rattle.regent_tree.specs.Execution.{before_last, last_field}
 use Rattle.regent_tree.specs.Limits.{number_of_nodes, nodes, parts_of_arms, parts_of_block, parts_of_expression, parts_of_form, parts_of_init, parts_of_otherwise, parts_of_steps, parts_of_type}
 use Rattle.regent_tree.specs.StaticTypes.{field_type, task_named}
 use Rattle.regent_tree.specs.Syntax.{Name, Expression, Initializer, access_expr, Steps, no_step, field_step, at_step, Form, a_statement, then_statement, no_statement, Block, Arms, no_arm, an_arm, Otherwise, no_else, else_block, var_form, if_form, while_form, for_in_form, for_to_form, do_form, fill_form, assert_form, print_form, call_form, assign_form, return_form, region_initializer, equal_initializer, by_field_initializer, image_initializer, preimage_initializer, both_initializer, either_initializer, plain_initializer}
-use Rattle.regent_tree.specs.Typing.{arithmetic_type, params_at, reaches_of, stepped_type, taken_from, var_type}
+use Rattle.regent_tree.specs.Typing.{arithmetic_type, is_pointer, params_at, reaches_of, stepped_type, taken_from, var_type}
 use Rattle.regent_tree.specs.declared.statement.How.{How}
 use Rattle.regent_tree.specs.declared.statement.How.TheVariants as how
 use Rattle.regent_tree.specs.declared.types.TypeTerm.{TypeTerm}
 use Rattle.regent_tree.specs.declared.typing.StaticType.{StaticType}
+use Rattle.check_rules.specs.launches.Shapes.{shape_of}
 use Rattle.code_rules.specs.Assignments.{fill_code, fold_code, put_code, right_code, set_code, slot_behind, target_code}
 use Rattle.code_rules.specs.Expressions.{expr_code}
 use Rattle.code_rules.specs.Initializers.{beside_code, declared_code, initializer_code, plain_code}
+use Rattle.std.specs.Prelude.{◌&&◌}
+use Rattle.code_rules.specs.Launches.{is_launch}
+use Rattle.check_rules.specs.types.Sorts.{is_space}
 use Rattle.code_rules.specs.Pieces.{Piece}
 use Rattle.code_rules.specs.Slots.{Where, bound, own_slot, slot_named, typed}
-use Rattle.code_rules.specs.Statements.{after_arm, after_arms, after_form, arms_code, block_code, else_code, form_code, looping, on_line}
+use Rattle.code_rules.specs.Statements.{after_arm, after_arms, after_form, arms_code, block_code, else_code, form_code, looping, on_line, points_code}
 use Rattle.code_rules.proofs.Sizes.{size}
 use Rattle.code_rules.specs.Initializers.{names_child, new_place}
 use Rattle.code_rules.specs.Instructions.{one}
@@ -27,6 +31,7 @@ use Rattle.code_rules.specs.Slots.{beside}
 use Rattle.regent_tree.specs.Syntax.{number_expr, truth_expr, chain_expr, prefix_expr, call_expr, convert_expr, is_null_expr, null_expr, cast_expr, space_expr}
 use Rattle.regent_tree.specs.Typing.{width_of_type}
 use Rattle.task_code.specs.declared.instr.Instr.TheVariants as instr
+use Rattle.code_rules.proofs.LaunchCodes.{launch_size}
 use Rattle.code_rules.proofs.PlainCode.{plain_either, written_either}
 use Rattle.code_rules.proofs.ExpressionSizes.{both_nodes, all_nodes, converted_size, expr_size, exprs_size}
 
@@ -184,9 +189,13 @@ mutual
       omega (arith, a, b, n)
   form_size w (for_in_form demanded n domain body) =
       let a = expr_size w 0 domain in
-      let b = block_size (looping w n (taken_from (typed w domain))) body in
-      let n = both_nodes (parts_of_expression domain) (parts_of_block body) in
-      omega (arith, a, b, n)
+      let inner = looping w n (taken_from (typed w domain)) in
+      let b = block_size inner body in
+      let m = both_nodes (parts_of_expression domain) (parts_of_block body) in
+      let one_by_one = points_code w (is_pointer (taken_from (typed w domain))) (block_code inner body) in
+      let c = launch_size w inner n (is_space (typed w domain) && is_launch (shape_of w.tree w.scope (for_in_form demanded n domain body))) body one_by_one
+      (16 + 16 * number_of_nodes (parts_of_block body)) (omega (arith, b)) (omega arith) in
+      omega (arith, a, c, m)
   form_size w (for_to_form demanded n from to body) =
       let a = expr_size w 0 from in
       let c = expr_size w 0 to in

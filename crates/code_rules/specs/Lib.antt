@@ -5,6 +5,7 @@ pub mod Expressions
 pub mod Initializers
 pub mod Assignments
 pub mod Prints
+pub mod Launches
 pub mod Statements
 pub mod Needs
 pub mod Used

@@ -1,5 +1,5 @@
 -- The code of statements. Nothing is left on the stack.
-use Rattle.std.specs.Prelude.{ℕ, pos, [], true, Some, None}
+use Rattle.std.specs.Prelude.{ℕ, pos, [], Bool, true, Option, Some, None}
 use Rattle.regent_tree.specs.declared.typing.StaticType.{StaticType}
 use Rattle.regent_tree.specs.Syntax.{Name, a_statement, Form, var_form, if_form, while_form, for_in_form, for_to_form, do_form, fill_form, assert_form, print_form, call_form, assign_form, return_form, Block, no_statement, then_statement, Arms, no_arm, an_arm, Otherwise, no_else, else_block}
 use Rattle.regent_tree.specs.StaticTypes.{task_named}
@@ -12,6 +12,7 @@ use Rattle.code_rules.specs.Instructions.{place_of_task, one, converted_code}
 use Rattle.code_rules.specs.Expressions.{expr_code, exprs_code, count}
 use Rattle.code_rules.specs.Initializers.{new_place, initializer_code}
 use Rattle.code_rules.specs.Assignments.{right_code, target_code, fill_code}
+use Rattle.code_rules.specs.Launches.{LaunchedCall, launch_code, launched_call}
 use Rattle.code_rules.specs.Prints.{parts_of}
 
 abbrev pub on_line : Where → ℕ → Where
@@ -29,6 +30,19 @@ after_arm w body = record w { scope = past_scope w.scope (scope_after_block w.tr
 abbrev pub after_arms : Where → Arms → Where
 after_arms w arms = record w { scope = scope_after_arms w.tree w.scope arms }
 
+-- a loop over points, point by point
+abbrev pub points_code : Where → Bool → Piece → Piece
+points_code w pointers body =
+    one w (instr.Num (pos 0)) ⨟ one w (instr.Store (counter w (new_place w)))
+    ⨟ rounds (instr.NextPoint (beside w (new_place w)) (counter w (new_place w))
+    (slot w (new_place w)) pointers) w.line body
+
+-- a launch in one step, and any other loop as it stands
+abbrev pub in_one_step : Where → Where → Name → Option LaunchedCall → Piece → Piece
+in_one_step w inner i None points = points
+in_one_step w inner i (Some c) points =
+    launch_code w (on_line inner c.line) i (beside w (new_place w)) c
+
 abbrev mutual
   pub form_code : Where → Form → Piece
   form_code w (var_form n term initializer) =
@@ -38,11 +52,11 @@ abbrev mutual
   form_code w (while_form test body) =
       loop w.line (expr_code w 0 test) (block_code w body)
   form_code w (for_in_form demanded n domain body) =
-      let t = taken_from (typed w domain) in
       expr_code w 0 domain ⨟ one w (instr.Store (beside w (new_place w)))
-      ⨟ one w (instr.Num (pos 0)) ⨟ one w (instr.Store (counter w (new_place w)))
-      ⨟ rounds (instr.NextPoint (beside w (new_place w)) (counter w (new_place w))
-      (slot w (new_place w)) (is_pointer t)) w.line (block_code (looping w n t) body)
+      ⨟ in_one_step w (looping w n (taken_from (typed w domain))) n
+      (launched_call w (for_in_form demanded n domain body) body)
+      (points_code w (is_pointer (taken_from (typed w domain)))
+      (block_code (looping w n (taken_from (typed w domain))) body))
   form_code w (for_to_form demanded n from to body) =
       let t = arithmetic_type (typed w from) (typed w to) in
       expr_code w 0 from ⨟ expr_code w 0 to

@@ -18,7 +18,7 @@ others_after [] (suc i) = refl
 others_after (t ∷ types) zero = refl
 others_after (t ∷ types) (suc i) = others_after types i
 
-others_dropped : (types : List StaticType) (i : ℕ) → other_types (drop i types) ≡ drop (i + 1) types
+pub others_dropped : (types : List StaticType) (i : ℕ) → other_types (drop i types) ≡ drop (i + 1) types
 others_dropped types i = others_after types i ∙ ap (λ n. drop n types) (suc-eq-add-one i)
 
 pub args_on : (w : Where) (d : ℕ) (types : List StaticType) (args : List Expr) (i : ℕ) (a : Expr) (now after total : List Line) →

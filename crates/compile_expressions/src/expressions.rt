@@ -159,7 +159,7 @@ pub fn arguments(
 
 /// The argument at a place.
 #[cycle(expression)]
-fn argument(
+pub fn argument(
     here: &Here,
     body: &mut Body,
     depth: u32,

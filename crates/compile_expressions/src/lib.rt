@@ -7,6 +7,6 @@ mod reached;
 mod single;
 
 pub use body::Body;
-pub use expressions::{access, arguments, called, expression};
+pub use expressions::{access, argument, arguments, called, expression};
 pub use reached::Reached;
 pub use single::{converted, field_place, one, space_in};

@@ -3,3 +3,4 @@ pub mod Forms
 pub mod Following
 pub mod Arms
 pub mod Joined
+pub mod Calls

@@ -2,20 +2,20 @@
 use Rattle.std.specs.Prelude.{ℕ, List, [], ◌∷◌, length}
 use Rattle.task_code.specs.declared.code.Line.{Line}
 use Rattle.task_code.specs.declared.instr.Instr.TheVariants as instr
-use Rattle.regent_tree.specs.Syntax.{Block, Expression, Form, Otherwise, if_form, no_else}
+use Rattle.regent_tree.specs.Syntax.{Expression, Form, Otherwise, if_form, no_else}
 use Rattle.code_rules.specs.Emitted.{emitted, opened, parted, put_in}
 use Rattle.code_rules.specs.Expressions.{expr_code}
+use Rattle.code_rules.specs.Pieces.{Piece}
 use Rattle.code_rules.specs.Slots.{Where}
-use Rattle.code_rules.specs.Statements.{block_code}
 
--- behind a test, with a place kept free, and its block
-abbrev pub behind_block : Where → Where → Expression → Block → List Line → List Line
-behind_block own w test body b = emitted (opened (emitted b (expr_code own 0 test)) w.line) (block_code w body)
+-- behind a test, with a place kept free, and the code of its block
+abbrev pub behind_block : Where → Where → Expression → Piece → List Line → List Line
+behind_block own w test inner b = emitted (opened (emitted b (expr_code own 0 test)) w.line) inner
 
 -- and with a place kept free for the jump past what follows
-abbrev pub parted_by : Where → Where → Expression → Block → List Line → List Line
-parted_by own w test body b =
-    parted w.line (length (emitted b (expr_code own 0 test))) (behind_block own w test body b)
+abbrev pub parted_by : Where → Where → Expression → Piece → List Line → List Line
+parted_by own w test inner b =
+    parted w.line (length (emitted b (expr_code own 0 test))) (behind_block own w test inner b)
 
 -- the jumps to the end are put into these places, the last one first
 abbrev pub joined : ℕ → List ℕ → List Line → List Line

@@ -1,3 +1,4 @@
 pub mod Scopes
 pub mod Branches
 pub mod Loops
+pub mod Shaped

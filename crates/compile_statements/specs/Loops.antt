@@ -30,6 +30,9 @@ abbrev pub numbers_code : Where → Expression → Expression → Piece
 numbers_code w from to = expr_code w 0 from ⨟ expr_code w 0 to
     ⨟ one w (instr.Store (beside w (new_place w))) ⨟ one w (instr.Store (counter w (new_place w)))
 
-abbrev pub points_code : Where → Expression → Piece
-points_code w domain = expr_code w 0 domain ⨟ one w (instr.Store (beside w (new_place w)))
-    ⨟ one w (instr.Num (pos 0)) ⨟ one w (instr.Store (counter w (new_place w)))
+abbrev pub domain_code : Where → Expression → Piece
+domain_code w domain = expr_code w 0 domain ⨟ one w (instr.Store (beside w (new_place w)))
+
+-- the counter of a loop that goes point by point
+abbrev pub counter_code : Where → Piece
+counter_code w = one w (instr.Num (pos 0)) ⨟ one w (instr.Store (counter w (new_place w)))

@@ -5,12 +5,16 @@
 mod at;
 mod blocks;
 mod branches;
+mod heads;
+mod launches;
 mod loops;
 mod scope;
+mod shapes;
 mod variable_types;
 mod variables;
 
 pub use at::At;
 pub use blocks::block;
 pub use scope::{Scope, Scoped};
+pub use shapes::Shapes;
 pub use variables::{bind, know};

@@ -1,9 +1,10 @@
 //! The heads of loops.
 
-ghost use Rattle.std.specs.Prelude.{◌≡◌, IfOk, OnOk, length, pos};
+ghost use Rattle.std.specs.Prelude.{◌≡◌, IfOk, OnOk, length};
 ghost use Rattle.regent_tree.specs.Plain.{expression_of};
 ghost use Rattle.regent_tree.specs.Typing.{arithmetic_type, taken_from};
 ghost use Rattle.task_code.specs.declared.instr.Instr.TheVariants as instr;
+ghost use Rattle.check_rules.specs.types.Sorts.{is_space};
 ghost use Rattle.code_rules.specs.Emitted.{added, emitted, opened, tested};
 ghost use Rattle.code_rules.specs.Expressions.{expr_code};
 ghost use Rattle.code_rules.specs.Initializers.{new_place};
@@ -11,12 +12,12 @@ ghost use Rattle.code_rules.specs.Instructions.{one};
 ghost use Rattle.code_rules.specs.Pieces.{◌⨟◌};
 ghost use Rattle.code_rules.specs.Slots.{beside, counter, slot, typed};
 ghost use Rattle.compile_types.specs.Here.{where_of};
-ghost use Rattle.compile_statements.specs.Loops.{head_instr, number_head, numbers_code, point_head, points_code};
+ghost use Rattle.compile_statements.specs.Loops.{counter_code, domain_code, head_instr, number_head, numbers_code, point_head};
 
 use compile_expressions::{Body, expression, one};
 use compile_types::Here;
 use regent_tree::{Expr, StaticType};
-use static_types::{arithmetic_type, is_pointer, pointer_into};
+use static_types::{arithmetic_type, is_pointer, is_space, pointer_into};
 use std::alloc::{AllocError, Global};
 use task_code::Instr;
 
@@ -57,11 +58,12 @@ impl Head {
     }
 }
 
-/// What a loop takes: the type of its variable, and its head.
+/// What a loop takes: the type of its variable, and its head; and whether it goes over an index space.
 #[derive(Drop)]
 pub struct Taken {
     pub static_type: StaticType,
     pub head: Head,
+    pub over_space: bool,
 }
 
 /// What a loop over a region or an index space takes: pointers into it, or its indices.
@@ -101,33 +103,44 @@ fn new_slots(here: &Here) -> Result<Slots, AllocError>
     })
 }
 
-/// The domain on the stack goes into its slot, and 0 into the counter.
-fn begin_points(here: &Here, body: &mut Body, slots: Slots) -> Result<(), AllocError>
-    ensures { OnOk result (body.new ≡ emitted body.old (one (where_of here.now) (instr.Store slots.beside)
-        ⨟ one (where_of here.now) (instr.Num (pos 0)) ⨟ one (where_of here.now) (instr.Store slots.counter))) }
-{
-    one(here, body, Instr::Store(slots.beside))?;
-    one(here, body, Instr::Num(0))?;
-    one(here, body, Instr::Store(slots.counter))
-}
-
-/// What stands before a loop over a region or an index space.
+/// The domain of a loop over a region or an index space goes into its slot.
 pub fn before_points(here: &Here, body: &mut Body, domain: &Expr) -> Result<Taken, AllocError>
     ensures typed { IfOk result (λ t. t.static_type ≡ taken_from (typed (where_of here.now) (expression_of domain.now))) }
     ensures head { IfOk result (λ t. t.head ≡ point_head (where_of here.now) t.static_type) }
-    ensures code { OnOk result (body.new ≡ emitted body.old (points_code (where_of here.now) (expression_of domain.now))) }
+    ensures space { IfOk result (λ t. t.over_space ≡ is_space (typed (where_of here.now) (expression_of domain.now))) }
+    ensures code { OnOk result (body.new ≡ emitted body.old (domain_code (where_of here.now) (expression_of domain.now))) }
 {
     let over = expression(here, body, 0, domain)?;
     let static_type = taken_from(here.alloc(), &over)?;
     let slots = new_slots(here)?;
-    begin_points(here, body, slots)?;
+    one(here, body, Instr::Store(slots.beside))?;
     let head = Head::Point {
         domain: slots.beside,
         counter: slots.counter,
         variable: slots.variable,
         pointers: is_pointer(&static_type),
     };
-    Ok(Taken { static_type, head })
+    Ok(Taken {
+        static_type,
+        head,
+        over_space: is_space(&over),
+    })
+}
+
+/// The counter of a loop that goes point by point begins with 0.
+pub fn begin_points(here: &Here, body: &mut Body) -> Result<(), AllocError>
+    ensures { OnOk result (body.new ≡ emitted body.old (counter_code (where_of here.now))) }
+{
+    let slots = new_slots(here)?;
+    one(here, body, Instr::Num(0))?;
+    one(here, body, Instr::Store(slots.counter))
+}
+
+/// The slot of the domain of a new loop.
+pub fn domain_slot(here: &Here) -> Result<u32, AllocError>
+    ensures { IfOk result (λ s. s ≡ beside (where_of here.now) (new_place (where_of here.now))) }
+{
+    Ok(new_slots(here)?.beside)
 }
 
 /// The bounds of a loop over numbers, and the type of its variable.
@@ -164,7 +177,11 @@ pub fn before_numbers(
         limit: slots.beside,
         variable: slots.variable,
     };
-    Ok(Taken { static_type, head })
+    Ok(Taken {
+        static_type,
+        head,
+        over_space: false,
+    })
 }
 
 /// Behind a loop's test, the jumps past the loop and back to its turn.

@@ -1,8 +1,9 @@
 //! How many slots a body uses.
 
-ghost use Rattle.std.specs.Prelude.{◌≡◌, [], ◌∷◌, suc, IfOk};
-ghost use Rattle.code_rules.specs.Used.{above_all, greatest, slots_of_lines, slots_used};
+ghost use Rattle.std.specs.Prelude.{◌≡◌, ◌++◌, [], ◌∷◌, flat_map, suc, IfOk, List, ℕ};
+ghost use Rattle.code_rules.specs.Used.{above_all, greatest, slots_named, slots_of_lines, slots_used};
 
+use index_launch::LaunchArg;
 use std::alloc::AllocError;
 use task_code::{Instr, Line};
 
@@ -36,6 +37,28 @@ fn above_three(a: u32, b: u32, c: u32) -> u64
     greatest(above(a), greatest(above(b), greatest(above(c), 0)))
 }
 
+/// A number above that of the slot that an argument of a launch names, and above those that are below another.
+fn above_named(arg: LaunchArg, least: u64) -> u64
+    ensures { (slots : List ℕ) → least ≡ above_all slots → result ≡ above_all (slots_named arg ++ slots) }
+{
+    match arg {
+        LaunchArg::Child(slot) | LaunchArg::Keep(slot) => greatest(above(slot), least),
+        LaunchArg::Number(_) | LaunchArg::Point => least,
+    }
+}
+
+/// A number above those of the slots that the arguments of a launch name.
+fn above_args(args: &[LaunchArg]) -> u64
+    ensures { result ≡ above_all (flat_map slots_named args.now) }
+{
+    let mut least = 0;
+    let count = args.len();
+    for after in 0..count {
+        least = above_named(args[count - 1 - after], least);
+    }
+    least
+}
+
 /// A number above those of the slots that an instruction names.
 fn slots_used(instr: &Instr) -> u64
     ensures { result ≡ slots_used instr.now }
@@ -61,6 +84,7 @@ fn slots_used(instr: &Instr) -> u64
         | Instr::Minus(a, b, c)
         | Instr::NextNumber(a, b, c, _)
         | Instr::NextPoint(a, b, c, _, _) => above_three(*a, *b, *c),
+        Instr::Launch(_, space, _, args) => greatest(above(*space), above_args(args.as_slice())),
         _ => 0,
     }
 }

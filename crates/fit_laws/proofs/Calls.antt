@@ -1,5 +1,5 @@
 -- Calls: the opening frame of a call fits, and its caller fits beside one child more.
-use Rattle.std.proofs.Common.{◌≡◌, ℕ, suc, ◌<◌, ◌≤◌, ◌^◌, List, [], ◌∷◌, ◌++◌, Bool, true, false, cond, Option, Some, None, refl, sym, ap, subst, arith}
+use Rattle.std.proofs.Common.{◌≡◌, ℕ, suc, ◌<◌, ◌≤◌, ◌+◌, ◌^◌, List, [], ◌∷◌, ◌++◌, Bool, true, false, cond, Option, Some, None, refl, sym, ap, subst, arith}
 use Rattle.std.proofs.lemmas.Option.{none-some}
 use Rattle.std.specs.Prelude.{slice_get, length, nat_lt, ◌==◌}
 use Rattle.std.proofs.lemmas.Bool.{lt-ltb, eq-eqb, ne_eqb}
@@ -8,6 +8,7 @@ use Rattle.region_tree.specs.declared.needs.Need.{Need}
 use Rattle.region_tree.specs.Requirements.{Requirement}
 use Rattle.task_code.specs.declared.code.NeedCode.{NeedCode}
 use Rattle.task_code.specs.declared.code.TaskCode.{TaskCode}
+use Rattle.machine_terms.specs.declared.frame.Frame.{Frame}
 use Rattle.machine_terms.specs.declared.outcome.Yield.{Yield}
 use Rattle.machine_terms.specs.declared.outcome.Yield.TheVariants as yield
 use Rattle.machine_terms.specs.declared.value.PartitionValue.{PartitionValue}
@@ -18,14 +19,14 @@ use Rattle.machine_terms.specs.Machine.{Machine, Stepped, stops, when, with_turn
 use Rattle.machine_terms.specs.Pointers.{region_in}
 use Rattle.machine_terms.specs.Calls.{take_values, yield_call, calling, call_task, call}
 use Rattle.machine_terms.specs.Opening.{with_points, need_on, needs_on}
-use Rattle.fit_rules.specs.Shapes.{Shape, awaited, NumberIs, World, IsPartition, IsRegion, Is, is_anything, is_number, is_space, is_region, is_partition, is_cut, is_pending, Are, are_none, are_more, Origin, unknown, Each, ComesFrom, argument, own_root, own_as, part, child_at, held_at}
-use Rattle.fit_rules.specs.Marks.{Into, stacked}
-use Rattle.fit_rules.specs.Fits.{Begins, Program, requires, claim_on, declared_claims, root_claims, own_claims, claims, AreClaims, no_claims, a_claim, PartsFit, Fits}
+use Rattle.fit_rules.specs.Shapes.{Shape, awaited, NumberIs, World, IsPartition, IsRegion, Is, is_anything, is_number, is_space, is_region, is_partition, is_cut, is_pending, Are, are_none, are_more, Origin, unknown, Each, ComesFrom, argument, own_root, own_as, part, child_at, held_at, KnowsRoots}
+use Rattle.fit_rules.specs.Marks.{around, Into, Mark, stacked, Suits}
+use Rattle.fit_rules.specs.Fits.{Begins, Beside, Program, requires, claim_on, declared_claims, root_claims, own_claims, claims, AreClaims, no_claims, a_claim, PartsFit, Fits}
 use Rattle.fit_rules.specs.Sound.{Takes, Opens, To, Settled}
 use Rattle.fit_rules.specs.Ends.{grown, called, opening_machine, without_parts, Safe, safe_stops}
 use Rattle.fit_laws.proofs.Held.{over}
 use Rattle.fit_laws.proofs.Taking.{takes_values, takes_settled, all_there}
-use Rattle.fit_laws.proofs.Straight.{turned}
+use Rattle.fit_laws.proofs.Straight.{beside_moved, turned}
 
 -- ---- one more child
 
@@ -83,6 +84,44 @@ own_grown g x s (r ∷ rs) =
 pub claims_grown : (g : Program) (x : World) (s : Shape) (t : TaskCode) → claims g (grown x s) t ≡ claims g x t
 claims_grown g x s t = ap (λ more. declared_claims t.needs x.args ++ more) (own_grown g x s x.own)
 
+pub knows_grown : (x : World) (s : Shape) → KnowsRoots x → KnowsRoots (grown x s)
+knows_grown x s k = record {
+  own_there = k.own_there;
+  args_there = k.args_there;
+  last_own = k.last_own;
+  one_number = k.one_number;
+  args_other = k.args_other;
+}
+
+pub suits_grown : (x : World) (s : Shape) (params : ℕ) (m : Mark) (vs st : List Value) → Suits x params m vs st → Suits (grown x s) params m vs st
+suits_grown x s params m vs st h = record {
+  slots = are_grown x s _ vs h.slots;
+  stack = are_grown (around x m vs) s _ st h.stack;
+  facts = h.facts;
+  top = h.top;
+  args = h.args;
+}
+
+pub no_parts : (g : Program) (x : World) (t : TaskCode) → PartsFit g x t []
+no_parts g x t root f q e = absurd (none-some q e)
+
+-- a frame for which no part is held
+abbrev pub bare : Frame → Machine
+bare f = record { frame = f; parts = [] }
+
+pub beside_grown : (g : Program) (x : World) (s : Shape) (t : TaskCode) (k : ℕ) (f : Frame) → Beside g x t k (bare f) →
+    suc (f.children + f.turns) < 2 ^ 64 → Beside g (grown x s) t k (bare (record f { children = suc f.children }))
+beside_grown g x s t k f b l = record {
+  task = b.task;
+  needs = subst (AreClaims f.needs.items) (sym (claims_grown g x s t)) b.needs;
+  parts = no_parts g (grown x s) t;
+  children = ap suc b.children;
+  calls = omega (arith, l);
+  own = b.own;
+  roots = knows_grown x s b.roots;
+  begins = b.begins;
+}
+
 -- ---- opening frames
 
 claim_more : (n : NeedCode) (o : Option RegionValue) (ns : List Need) (rs : List Requirement) → AreClaims ns (rs ++ []) →
@@ -101,9 +140,6 @@ claim_more n (Some r) ns rs h = of_points r.points
 claims_open : (ns : List NeedCode) (vs : List Value) → AreClaims (needs_on ns vs) (declared_claims ns vs ++ [])
 claims_open [] vs = no_claims
 claims_open (n ∷ ns) vs = claim_more n (region_in (slice_get vs n.param)) _ _ (claims_open ns vs)
-
-no_parts : (g : Program) (x : World) (t : TaskCode) → PartsFit g x t []
-no_parts g x t root f q e = absurd (none-some q e)
 
 pub opening_fits : (g : Program) (x : World) (k : ℕ) (t : TaskCode) (vs : List Value) (turns depth : ℕ) → turns < 2 ^ 64 →
     0 < length t.body → ((i : ℕ) (r : RegionValue) → region_in (slice_get vs i) ≡ Some r → x.there r.root.0 ≡ true) →
@@ -152,22 +188,9 @@ module _ (g : Program) (x : World) (t : TaskCode) (k : ℕ) (m : Machine) (fit :
       top = tt;
       args = fit.suits.args;
     });
-    beside = record {
-      task = fit.beside.task;
-      needs = subst (AreClaims m.frame.needs.items) (sym (claims_grown g x (g.results task) t)) fit.beside.needs;
-      parts = no_parts g (grown x (g.results task)) t;
-      children = ap suc fit.beside.children;
-      calls = omega (arith, e, fit.beside.calls);
-      own = fit.beside.own;
-      roots = record {
-        own_there = fit.beside.roots.own_there;
-        args_there = fit.beside.roots.args_there;
-        last_own = fit.beside.roots.last_own;
-        one_number = fit.beside.roots.one_number;
-        args_other = fit.beside.roots.args_other;
-      };
-      begins = fit.beside.begins;
-    };
+    beside = beside_grown g x (g.results task) t k (record m.frame { turns = p; pc = suc m.frame.pc; stack = value.Pending m.frame.children ∷ st })
+        (beside_moved g x t k m fit (suc m.frame.pc) p m.frame.slots (value.Pending m.frame.children ∷ st) [] (omega (arith, e)) (no_parts g x t))
+        (omega (arith, e, fit.beside.calls));
   }
 
   issued : (task line p : ℕ) (callee : TaskCode) (args rest : List Shape) (ws st : List Value) → length t.body ≤ 2 ^ 32 →

@@ -21,7 +21,7 @@ use Rattle.fit_laws.proofs.Keeping.{OfSlots, set_each, stores_behind}
 
 -- ---- lines
 
-abbrev EachAt : (ℕ → Instr → Type 0) → ℕ → List Line → Type 0
+abbrev pub EachAt : (ℕ → Instr → Type 0) → ℕ → List Line → Type 0
 EachAt P pc [] = Unit {0}
 EachAt P pc (l ∷ ls) = P pc l.instr × EachAt P (suc pc) ls
 
@@ -35,7 +35,7 @@ at_place P (m ∷ ls) first (suc i) l h e =
     let same : suc first + i ≡ first + suc i = omega arith in
     subst (λ pc. P pc l.instr) same (at_place P ls (suc first) i l h.1 e)
 
-fetched : (P : ℕ → Instr → Type 0) (ls : List Line) → EachAt P 0 ls → (pc : ℕ) (l : Line) → fetch ls pc ≡ Some l → P pc l.instr
+pub fetched : (P : ℕ → Instr → Type 0) (ls : List Line) → EachAt P 0 ls → (pc : ℕ) (l : Line) → fetch ls pc ≡ Some l → P pc l.instr
 fetched P ls h pc l e = of_test (nat_lt pc (2 ^ 32)) e
   where
     of_test : (b : Bool) → elim b [ true ↦ slice_get ls pc | false ↦ None ] ≡ Some l → P pc l.instr

@@ -13,6 +13,7 @@ pub mod Taking
 pub mod Fills
 pub mod Effects
 pub mod Calls
+pub mod Launches
 pub mod Making
 pub mod Begun
 pub mod Rooting
@@ -25,4 +26,5 @@ pub mod Segments
 pub mod Made
 pub mod Passing
 pub mod Example
+pub mod Launching
 pub mod Fetching

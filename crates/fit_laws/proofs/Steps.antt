@@ -23,7 +23,7 @@ use Rattle.machine_terms.specs.Segments.{act, act_at, step}
 use Rattle.fit_rules.specs.Shapes.{Among, Each, HasPoint, IsPointOf, Shape, integer, truth, index, pointer, space, region, awaited, IsPartition, is_region, is_pending, Numeric, numeric_integer, numeric_truth, numeric_index, numeric_pointer, NumberIs, World, Is, is_number, Are, are_more, unknown}
 use Rattle.fit_rules.specs.Marks.{HasNumber, Colour, colour_in, point_in, HasColour, child_in, top_colour, top_at, HoldsTop, ColoursStand, topped, Fact, counts, parted, lies, in_slot, Holds, AtMost, size_in, Mark, Suits, stacked}
 use Rattle.fit_rules.specs.Fits.{Program, Fits}
-use Rattle.fit_rules.specs.Sound.{HasPartition, To, ToStored, RoundNumber, RoundPoint, Sound, straight, colours, colours_by, colours_point, takes_child, awaits, stored, jumps, jumps_if_not, jumps_and, jumps_or, counts_numbers, counts_points, makes_root, makes_equal, makes_by_field, makes_minus, makes_meet, makes_join, makes_image, makes_preimage, makes_call, takes_turn, returns, returns_value, Valid}
+use Rattle.fit_rules.specs.Sound.{HasPartition, To, ToStored, RoundNumber, RoundPoint, Sound, straight, colours, colours_by, colours_point, takes_child, awaits, stored, jumps, jumps_if_not, jumps_and, jumps_or, counts_numbers, counts_points, makes_root, makes_equal, makes_by_field, makes_minus, makes_meet, makes_join, makes_image, makes_preimage, makes_call, makes_launch, takes_turn, returns, returns_value, Valid}
 use Rattle.fit_rules.specs.Ends.{Safe, safe_goes, safe_stops}
 use Rattle.fit_laws.proofs.Held.{over, region_held}
 use Rattle.fit_laws.proofs.Lookup.{each_among, value_at, as_long}
@@ -31,6 +31,7 @@ use Rattle.fit_laws.proofs.Straight.{beside_moved, fits_at, fits_topped, moved, 
 use Rattle.fit_laws.proofs.Pointers.{partition_at, among_coloured}
 use Rattle.fit_laws.proofs.Numbers.{point_below, small_fits}
 use Rattle.fit_laws.proofs.Calls.{call_safe}
+use Rattle.fit_laws.proofs.Launches.{launch_safe}
 use Rattle.fit_laws.proofs.Columns.{by_field_safe, image_safe, preimage_safe}
 use Rattle.fit_laws.proofs.Rooting.{new_root_safe}
 use Rattle.fit_laws.proofs.Making.{equal_safe, minus_safe, meet_safe, join_safe}
@@ -343,6 +344,8 @@ module _ (g : Program) (x : World) (t : TaskCode) (k : ℕ) (m : Machine) (fit :
       (fact_at (lies (in_slot s) (in_slot r)) q) to
   sound_safe short _ line (makes_call task n callee args rest e p l tk o to) =
       call_safe g x t k m fit short task n line callee args rest e p l tk o to
+  sound_safe short _ line (makes_launch task s call_line args callee e p l es h o to) =
+      launch_safe g x t k m fit short task s call_line line args callee e p l es h o to
   sound_safe short _ line (takes_turn to) = turned g x t k m fit m.frame.turns line _ refl (λ p e.
       safe_goes _ (moved_fits (suc m.frame.pc) p m.frame.slots m.frame.stack e to.0 (to.1 x _ _ fit.suits)))
   sound_safe short _ line returns = safe_stops _ _ (fit.beside.parts, tt)

@@ -41,7 +41,7 @@ module _ (x : World) where
   at_hand _ _ (settled_cut sp d o) (is_cut _ _ _ q h c) = refl
 
   -- and a region that is at hand is of a root that is there
-  one_there : (s : Shape) (v : Value) (r : RegionValue) → Settled s → Is x s v → region_in (Some v) ≡ Some r → x.there r.root.0 ≡ true
+  pub one_there : (s : Shape) (v : Value) (r : RegionValue) → Settled s → Is x s v → region_in (Some v) ≡ Some r → x.there r.root.0 ≡ true
   one_there _ _ r (settled_number _ (numeric_integer w)) (is_number _ z h) e = absurd (none-some r e)
   one_there _ _ r (settled_number _ numeric_truth) (is_number _ z h) e = absurd (none-some r e)
   one_there _ _ r (settled_number _ numeric_index) (is_number _ z h) e = absurd (none-some r e)

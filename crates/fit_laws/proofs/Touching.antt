@@ -24,7 +24,7 @@ use Rattle.machine_terms.specs.Touches.{touch_of, touch_through, touch_region, t
 use Rattle.code_rules.specs.Instructions.{computing, comparing}
 use Rattle.fit_rules.specs.Shapes.{Among, Each, Shape, pointer, World, is_number, Are, are_more}
 use Rattle.fit_rules.specs.Fits.{Program, Covers, Fits}
-use Rattle.fit_rules.specs.Sound.{Allowed, Through, Effect, does_num, does_load, does_load_as, does_drop, does_compute, does_compare, does_pointers_equal, does_pointers_differ, does_negate, does_wrap, does_invert, does_point, does_is_null, does_assert, does_move, does_element, does_read, does_write, does_reduce, does_fill, does_cast, does_cast_pointer, does_space, does_colors, does_child, does_print, Sound, straight, colours, colours_by, colours_point, takes_child, awaits, stored, jumps, jumps_if_not, jumps_and, jumps_or, counts_numbers, counts_points, makes_root, makes_equal, makes_by_field, makes_minus, makes_meet, makes_join, makes_image, makes_preimage, makes_call, takes_turn, returns, returns_value, Valid}
+use Rattle.fit_rules.specs.Sound.{Allowed, Through, Effect, does_num, does_load, does_load_as, does_drop, does_compute, does_compare, does_pointers_equal, does_pointers_differ, does_negate, does_wrap, does_invert, does_point, does_is_null, does_assert, does_move, does_element, does_read, does_write, does_reduce, does_fill, does_cast, does_cast_pointer, does_space, does_colors, does_child, does_print, Sound, straight, colours, colours_by, colours_point, takes_child, awaits, stored, jumps, jumps_if_not, jumps_and, jumps_or, counts_numbers, counts_points, makes_root, makes_equal, makes_by_field, makes_minus, makes_meet, makes_join, makes_image, makes_preimage, makes_call, makes_launch, takes_turn, returns, returns_value, Valid}
 use Rattle.fit_rules.specs.Ends.{Safe, safe_goes, safe_prints, safe_stops}
 use Rattle.fit_laws.proofs.Held.{over}
 use Rattle.fit_laws.proofs.Access.{AimedWell, aims_well, fails_well, aim_well, region_at}
@@ -134,6 +134,7 @@ module _ (g : Program) (x : World) (t : TaskCode) (k : ℕ) where
     of_sound _ (makes_image s p r f sp sq so hs hp h q to) = of_region sp f mode.Read r h
     of_sound _ (makes_preimage s p r f sp sq so hs hp h q to) = of_region sp f mode.Read r h
     of_sound _ (makes_call task n callee args rest e p l tk o to) = tt
+    of_sound _ (makes_launch task s call_line args callee e p l es h o to) = tt
     of_sound _ (takes_turn to) = tt
     of_sound _ returns = tt
     of_sound _ (returns_value a ss e n h) = tt

@@ -1,4 +1,5 @@
 pub mod Segments
 pub mod Makes
 pub mod Example
+pub mod Launching
 pub mod Within

@@ -4,6 +4,7 @@
 #![tactic(auto)]
 
 ghost use Rattle.fit_laws.specs.Example.{ExampleEnds, ExampleIsSound};
+ghost use Rattle.fit_laws.specs.Launching.{LaunchCalls, LaunchIsSound};
 ghost use Rattle.fit_laws.specs.Makes.{PartitionsAreMade, PartsAreFetched, RootsAreClaimed};
 ghost use Rattle.fit_laws.specs.Segments.{ChildrenAreWithin, ChildrenPass, NoSegmentBreaks, PartitionsAreSound, SegmentsKeepFitting, TouchesAreCovered};
 ghost use Rattle.fit_laws.specs.Within.{CoveredNeedsAreWithin};
@@ -42,4 +43,11 @@ pub fn made_things_are_as_asked()
 pub fn example_is_sound()
     ensures sound { ExampleIsSound }
     ensures ends { ExampleEnds }
+{}
+
+/// Code that launches a task over two colours, with the child of a partition, a slot's number, a number and the
+/// colour; a segment at the launch calls the task for each colour.
+pub fn launch_is_sound()
+    ensures sound { LaunchIsSound }
+    ensures calls { LaunchCalls }
 {}

@@ -6,6 +6,9 @@ use Rattle.lane_kernels.specs.declared.numbers.Op.{Op}
 use Rattle.lane_kernels.specs.declared.numbers.Width.{Width}
 use Rattle.lane_kernels.specs.Numbers.{width_of}
 use Rattle.plain_values.specs.Points.{has}
+use Rattle.index_launch.specs.Points.{call_at}
+use Rattle.index_launch.specs.declared.points.LaunchArg.{LaunchArg}
+use Rattle.index_launch.specs.declared.points.LaunchArg.TheVariants as launch_arg
 use Rattle.regent_tree.specs.declared.expression.Arithmetic.{Arithmetic}
 use Rattle.regent_tree.specs.declared.expression.Comparison.{Comparison}
 use Rattle.region_tree.specs.Requirements.{IsWithin}
@@ -20,6 +23,7 @@ use Rattle.machine_terms.specs.declared.value.Value.{Value}
 use Rattle.machine_terms.specs.declared.value.Value.TheVariants as value
 use Rattle.machine_terms.specs.Calls.{count_numbers}
 use Rattle.machine_terms.specs.Jumps.{may_jump, fetch, taken, point_at}
+use Rattle.machine_terms.specs.Launches.{arguments}
 use Rattle.machine_terms.specs.Pointers.{region_in}
 use Rattle.code_rules.specs.Instructions.{computing, comparing}
 use Rattle.fit_rules.specs.Shapes.{Among, Each, Is, IsPlain, child_at, held_at, Shape, integer, truth, index, pointer, space, region, partition, cut_from, awaited, Numeric, NumberIs, Origin, own_as, part, unknown, World, KnowsRoots, Are}
@@ -62,6 +66,12 @@ pub record HasRegion (m : Mark) (sp : Option ℕ) (s : ℕ) : Type 0 where
 pub record HasPartition (m : Mark) (sp : Option ℕ) (s : ℕ) : Type 0 where
   pub disjoint : Bool
   pub shape : slice_get m.slots s ≡ Some (partition sp disjoint)
+
+-- what a launch hands over by the name of a slot is there: a partition, or what isn't pending
+abbrev pub HasArgument : Mark → LaunchArg → Type 0
+HasArgument m (launch_arg.Child s) = (sp : Option ℕ) × HasPartition m sp s
+HasArgument m (launch_arg.Keep s) = (a : Shape) × (slice_get m.slots s ≡ Some a) × Settled a
+HasArgument m _ = Unit {0}
 
 module _ (g : Program) (t : TaskCode) where
   -- An access to a field through the region in a slot is allowed at a mark: it is a region of the
@@ -153,12 +163,23 @@ module _ (g : Program) (t : TaskCode) where
       Suits x t.params n
       (slice_set (slice_set vs v (value.Number (taken ptr p))) c (value.Number (pos i +ℤ pos 1))) st
 
-  -- What a call needs to know: a frame of the called task may begin with arguments of these shapes, its declared needs are on
-  -- regions, and what it needs is within what the caller needs. And such a frame suits the first mark of its code.
+  -- What a call needs to know: a frame of the called task may begin with these arguments, its declared needs are on
+  -- regions, and what it needs is within what the caller needs.
+  abbrev pub OpensWith : World → ℕ → TaskCode → List Value → Type 0
+  OpensWith x task callee ws =
+      Begins g x callee task ws × Each (IsNeeded g x ws) callee.needs × IsWithin (declared_claims callee.needs ws) (claims g x t)
+
+  -- It knows it of all arguments of these shapes, and such a frame suits the first mark of the task's code.
   abbrev pub Opens : Mark → ℕ → TaskCode → List Shape → Type 0
   Opens m task callee args = Into callee.params (g.begins task) (g.marks task 0)
       × ((x : World) (vs st ws : List Value) → KnowsRoots x → Suits x t.params m vs st → Are (around x m vs) args ws →
-      Begins g x callee task ws × Each (IsNeeded g x ws) callee.needs × IsWithin (declared_claims callee.needs ws) (claims g x t))
+      OpensWith x task callee ws)
+
+  -- A launch knows it of its arguments at each colour.
+  abbrev pub OpensEach : Mark → ℕ → TaskCode → List LaunchArg → Type 0
+  OpensEach m task callee args = Into callee.params (g.begins task) (g.marks task 0)
+      × ((x : World) (vs st ws : List Value) (colour : ℕ) → KnowsRoots x → Suits x t.params m vs st → colour < 4194304 →
+      arguments vs (call_at args colour) ≡ Some ws → OpensWith x task callee ws)
 
   module _ (k : ℕ) where
     -- what suits a mark may go on at a place
@@ -265,6 +286,12 @@ module _ (g : Program) (t : TaskCode) where
           Takes n (g.marks k pc).stack [] args rest → Opens (g.marks k pc) task callee args →
           To (stacked (g.marks k pc) (awaited (g.results task) ∷ rest)) (suc pc) →
           Sound pc (instr.Call task n)
+      -- nothing is kept of the results of a launch's calls
+      makes_launch : (task s line : ℕ) (args : List LaunchArg) (callee : TaskCode) →
+          slice_get g.code.tasks task ≡ Some callee → callee.params ≡ length args → 0 < length callee.body →
+          slice_get (g.marks k pc).slots s ≡ Some space → Each (HasArgument (g.marks k pc)) args →
+          OpensEach (g.marks k pc) task callee args → To (g.marks k pc) (suc pc) →
+          Sound pc (instr.Launch task s line args)
       takes_turn : To (g.marks k pc) (suc pc) → Sound pc instr.Turn
       returns : Sound pc instr.Return
       returns_value : (a : Shape) (ss : List Shape) → (g.marks k pc).stack ≡ a ∷ ss → Numeric a →

@@ -29,7 +29,7 @@ use Rattle.fit_rules.specs.Ends.{called, CallsWell, grown, grown_by, IsNeeded, R
 use Rattle.task_code.specs.declared.code.NeedCode.{NeedCode}
 use Rattle.machine_terms.specs.declared.value.Value.{Value}
 use Rattle.fit_laws.specs.Segments.{PassesTest}
-use Rattle.fit_laws.proofs.Calls.{claims_grown}
+use Rattle.fit_laws.proofs.Calls.{claims_grown, knows_grown}
 use Rattle.fit_laws.proofs.Lookup.{as_long}
 use Rattle.fit_laws.proofs.Passing.{passes}
 use Rattle.fit_runs.specs.Runs.{IsSoundCode}
@@ -89,15 +89,6 @@ call_grown g x t s c w = record {
 calls_grown : (g : Program) (x : World) (t : TaskCode) (s : Shape) (cs : List CallOut) → Each (CallsWell g x t) cs → Each (CallsWell g (grown x s) t) cs
 calls_grown g x t s [] h = tt
 calls_grown g x t s (c ∷ cs) h = (call_grown g x t s c h.0, calls_grown g x t s cs h.1)
-
-knows_grown : (x : World) (s : Shape) → KnowsRoots x → KnowsRoots (grown x s)
-knows_grown x s k = record {
-  own_there = k.own_there;
-  args_there = k.args_there;
-  last_own = k.last_own;
-  one_number = k.one_number;
-  args_other = k.args_other;
-}
 
 module _ (g : Program) (sound : IsSoundCode g) (turns : ℕ) (few : turns < 2 ^ 64) where
   -- ---- an instance begins

@@ -4,6 +4,7 @@ pub mod Words
 pub mod Frames
 pub mod Operands
 pub mod Calls
+pub mod Launches
 pub mod Roots
 pub mod Partitions
 pub mod Accesses

@@ -8,6 +8,7 @@ ghost use Rattle.machine_laws.specs.Accesses.{fill_is_done, great_number_is_wrap
 ghost use Rattle.machine_laws.specs.Calls.{absent_callee_breaks, call_costs_come_in_order, call_is_yielded, too_many_children_break, wrong_count_breaks};
 ghost use Rattle.machine_laws.specs.Faults.{bad_colour_faults, bad_size_faults, deep_call_faults, divide_by_zero_faults, failed_assert_faults, least_quotient_wraps, null_pointer_faults, out_of_region_faults, spent_turns_fault};
 ghost use Rattle.machine_laws.specs.Frames.{absent_task_breaks, empty_body_breaks, few_slots_break, fitting_frame_returns, later_fault_comes, later_fault_of_absent_task_breaks, many_slots_break, passed_end_breaks};
+ghost use Rattle.machine_laws.specs.Launches.{all_calls_are_yielded, calls_before_a_fault_are_yielded, launch_costs_come_in_order, no_colours_make_no_calls, rounds_and_calls_take_turns, too_many_launched_break, wrong_arguments_break, wrong_colours_break, wrong_launches_break};
 ghost use Rattle.machine_laws.specs.Loops.{numbers_are_counted, points_are_taken, truths_are_joined, wrong_domains_break};
 ghost use Rattle.machine_laws.specs.Operands.{absent_slots_break, counted_loop_exits, jump_back_takes_turns, jump_goes_there, jump_not_made_returns, jumps_out_of_range_break, loaded_child_is_awaited, missing_operand_breaks, nothing_to_drop_breaks, nothing_to_store_breaks, pending_child_breaks, region_in_sum_breaks, slots_hold, space_in_sum_breaks, stored_child_is_kept, two_numbers_add};
 ghost use Rattle.machine_laws.specs.Partitions.{by_field_is_made, by_field_tests_come_in_order, child_is_looked_up, colours_are_counted, image_is_made, image_of_another_root_breaks, image_past_the_region_breaks, preimage_in_another_root_breaks, preimage_is_made, preimage_past_the_region_breaks, too_many_colours_break};
@@ -79,6 +80,19 @@ pub fn calls()
     ensures wrong_count { wrong_count_breaks }
     ensures call_costs { call_costs_come_in_order }
     ensures too_many_children { too_many_children_break }
+{}
+
+/// Launches: their calls, the fault that may follow them, and what breaks.
+pub fn launches()
+    ensures all_calls { all_calls_are_yielded }
+    ensures before_a_fault { calls_before_a_fault_are_yielded }
+    ensures turns { rounds_and_calls_take_turns }
+    ensures costs { launch_costs_come_in_order }
+    ensures no_colours { no_colours_make_no_calls }
+    ensures too_many { too_many_launched_break }
+    ensures wrong_launches { wrong_launches_break }
+    ensures wrong_arguments { wrong_arguments_break }
+    ensures wrong_colours { wrong_colours_break }
 {}
 
 /// Roots of field spaces that are there, or not.

@@ -1,4 +1,5 @@
 pub mod Aims
+pub mod Handed
 pub mod Casts
 pub mod Columns
 pub mod Fills

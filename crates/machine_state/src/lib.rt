@@ -10,6 +10,7 @@ mod columns;
 mod copies;
 mod divisions;
 mod fills;
+mod handed;
 mod holdings;
 mod pointers;
 mod points;
@@ -27,6 +28,7 @@ pub use divisions::{
     Division, divide_by_both, divide_by_either, divide_by_field, divide_by_image,
     divide_by_preimage, divide_equally, divide_without, lies_in,
 };
+pub use handed::{are_held, arguments};
 pub use holdings::{Holdings, Lack};
 pub use pointers::{Pointer, are_same, held_point, region_in};
 pub use points::{Upcoming, loop_value, next_of};

@@ -12,7 +12,7 @@ use Rattle.machine_terms.specs.declared.outcome.Yield.{Yield}
 use Rattle.machine_terms.specs.Machine.{Machine, Stepped, goes, prints, stops}
 use Rattle.machine_terms.specs.Jumps.{fetch, goes_back}
 use Rattle.machine_terms.specs.Segments.{act_at, step, enough}
-use Rattle.machine_terms.proofs.StepKinds.{Kind, over, called, makes, wants, awaits, nexted, printed, jumped, turned, key_of, slot_of}
+use Rattle.machine_terms.proofs.StepKinds.{Kind, over, called, makes, wants, awaits, nexted, printed, jumped, turned, is_launch, key_of, slot_of}
 use Rattle.machine_terms.proofs.InstructionKinds.{act_kind}
 use Rattle.machine_terms.proofs.LoopHeads.{Head, head_stops, head_turns, head_leaves, head_kind}
 
@@ -93,11 +93,11 @@ module _ (code : Code) (body : List Line) where
       (later j m _ e (further m (q ∙ t) (omega (arith, far, l))))
 
   by_kind : (n d : ℕ) (i : Machine) (a : Instr) (s : Stepped) → step code body i ≡ s →
-      Kind (record { body = body; key = key_of a i.frame; slot = slot_of a i.frame }) i s →
+      Kind (record { body = body; key = key_of a i.frame; slot = slot_of a i.frame; launch = is_launch a }) i s →
       i.frame.turns ≡ n → length body ≤ i.frame.pc + suc d → Further n d → Afterwards n →
       Bounded i (behind_turn n + 2 * suc d + 1)
   by_kind n d i a _ e (over y m o f) t l further after = now i m _ y (omega arith) e
-  by_kind n d i a _ e (called cs m f q p h) t l further after = now i m _ _ (omega arith) e
+  by_kind n d i a _ e (called cs m f q p h k) t l further after = now i m _ _ (omega arith) e
   by_kind n d i a _ e (makes w m f q p) t l further after = now i m _ _ (omega arith) e
   by_kind n d i a _ e (wants r g m f q p h) t l further after = now i m _ _ (omega arith) e
   by_kind n d i a _ e (awaits c h) t l further after = now i i _ _ (omega arith) e
@@ -137,8 +137,8 @@ module _ (code : Code) (body : List Line) where
           Bounded i (behind_turn n + 2 * suc d + 1)
       at_line None e further = now i i _ _ (omega arith) (ap (λ o. act_at code body o i) e)
       at_line (Some a) e further = by_kind n d i a.instr _ (ap (λ o. act_at code body o i) e)
-          (act_kind (record { body = body; key = key_of a.instr i.frame; slot = slot_of a.instr i.frame })
-          code a.instr a.line i refl refl) t l further after
+          (act_kind (record { body = body; key = key_of a.instr i.frame; slot = slot_of a.instr i.frame; launch = is_launch a.instr })
+          code a.instr a.line i refl refl refl) t l further after
 
   -- from any machine it stops
   stops_soon : (n : ℕ) (i : Machine) → i.frame.turns ≡ n → Bounded i (anywhere n)

@@ -3,6 +3,7 @@ pub mod FitParts
 pub mod StepKinds
 pub mod NumberKinds
 pub mod RegionKinds
+pub mod Launches
 pub mod InstructionKinds
 pub mod LoopHeads
 pub mod Fuel

@@ -10,7 +10,7 @@ use Rattle.machine_terms.specs.declared.value.Value.TheVariants.{Number, Space, 
 use Rattle.machine_terms.specs.Machine.{Machine, goes, when, at, with_turns, broken}
 use Rattle.machine_terms.specs.Numbers.{load, store, discard, divided, arithmetic as computes}
 use Rattle.machine_terms.specs.Jumps.{fetch, may_jump, jump, leave, round, count_round, take_point, point_round, points_round, size_of, point_at, goes_back}
-use Rattle.machine_terms.proofs.StepKinds.{Asking, Kind, fixed, fixed_at, fixed_turns, over, awaits, nexted, jumped, turned, when_kind, stops_kind, next_kind, two_kind, turn_kind, choose_kind}
+use Rattle.machine_terms.proofs.StepKinds.{Asking, Kind, fixed, steady_at, fixed_turns, over, awaits, nexted, jumped, turned, when_kind, stops_kind, next_kind, two_kind, turn_kind, choose_kind}
 
 module _ (ask : Asking) where
   pub load_kind : (m : Machine) (o : Option Value) → ask.slot ≡ o → Kind ask m (load m o)
@@ -41,7 +41,7 @@ module _ (ask : Asking) where
     where
       allowed : (b : Bool) → may_jump ask.body m.frame.pc to ≡ b →
           Kind ask m (when b (goes (at to st m)) (broken m))
-      allowed true e = jumped _ (fixed_at to st m) refl e
+      allowed true e = jumped _ (steady_at to st m) refl e
       allowed false e = stops_kind ask _ m tt
 
   pub leave_kind : (to : ℕ) (m : Machine) → Kind ask m (leave to m)
@@ -49,7 +49,7 @@ module _ (ask : Asking) where
     where
       allowed : (b : Bool) → nat_lt m.frame.pc to ≡ b →
           Kind ask m (when b (goes (at to m.frame.stack m)) (broken m))
-      allowed true e = jumped _ (fixed_at to m.frame.stack m) refl
+      allowed true e = jumped _ (steady_at to m.frame.stack m) refl
           (ap (λ c. elim c [ true ↦ true | false ↦ goes_back m.frame.pc (fetch ask.body to) ]) e)
       allowed false e = stops_kind ask _ m tt
 

@@ -165,7 +165,7 @@ module _ (ask : Asking) where
       ask.key ≡ Some (root.0, g) → Filling f m → Kind ask f (fill_points root.0 g w z xs st m)
   fill_kind f root g w z [] st m d e =
       let k = filling_fixed f m e in
-      nexted _ (record { task = k.task; slots = k.slots; later = k.later; depth = k.depth; own = k.own; needs = k.needs; parts = k.parts; fits = k.fits }) (ap (λ (x : Frame). x.turns) e.frame) (ap (λ (x : Frame). suc x.pc) e.frame)
+      nexted _ (record { task = k.task; slots = k.slots; later = ap (λ (x : Frame). x.later) e.frame; depth = k.depth; own = k.own; needs = k.needs; parts = k.parts; fits = k.fits }) (ap (λ (x : Frame). x.turns) e.frame) (ap (λ (x : Frame). suc x.pc) e.frame)
   fill_kind f root g w z (x ∷ xs) st m d e =
       fill_cell_kind f root g w x z (find m.frame.needs.items m.parts root.0 g x) m (fill_points root.0 g w z xs st) e d
       (λ h. missing_is m root.0 g x h)

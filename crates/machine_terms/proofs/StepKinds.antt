@@ -1,5 +1,5 @@
 -- The ways in which an instruction goes on or stops, and what of the frame it leaves as it is.
-use Rattle.std.proofs.Common.{◌≡◌, ℕ, zero, suc, ◌^◌, ℤ, List, [], ◌∷◌, Bool, true, false, Option, Some, None, refl, sym, ap, ◌∙◌}
+use Rattle.std.proofs.Common.{◌≡◌, ℕ, zero, suc, ◌^◌, ◌≤◌, ℤ, List, [], ◌∷◌, Bool, true, false, Option, Some, None, refl, sym, ap, ◌∙◌}
 use Rattle.std.specs.Prelude.{slice_get, length, nat_lt, nat_le}
 use Rattle.regent_tree.specs.Values.{target_kept}
 use Rattle.task_code.specs.declared.code.Line.{Line}
@@ -27,12 +27,33 @@ use Rattle.machine_terms.proofs.KeptParts.{IsMissing}
 pub record Fixed (f g : Machine) : Type 0 where
   pub task : g.frame.task ≡ f.frame.task
   pub slots : length g.frame.slots ≡ length f.frame.slots
+  pub depth : g.frame.depth ≡ f.frame.depth
+  pub own : g.frame.own ≡ f.frame.own
+  pub needs : g.frame.needs ≡ f.frame.needs
+  pub parts : bare g.parts ≡ bare f.parts
+  pub fits : PartsFit f.parts → PartsFit g.parts
+
+-- nor is a fault kept for later, as behind a launch
+pub record Steady (f g : Machine) : Type 0 where
+  pub task : g.frame.task ≡ f.frame.task
+  pub slots : length g.frame.slots ≡ length f.frame.slots
   pub later : g.frame.later ≡ f.frame.later
   pub depth : g.frame.depth ≡ f.frame.depth
   pub own : g.frame.own ≡ f.frame.own
   pub needs : g.frame.needs ≡ f.frame.needs
   pub parts : bare g.parts ≡ bare f.parts
   pub fits : PartsFit f.parts → PartsFit g.parts
+
+pub steady_fixed : (f g : Machine) → Steady f g → Fixed f g
+steady_fixed f g h = record {
+  task = h.task;
+  slots = h.slots;
+  depth = h.depth;
+  own = h.own;
+  needs = h.needs;
+  parts = h.parts;
+  fits = h.fits;
+}
 
 -- What an instruction may ask for: a field of a root, or what is pending in a slot. It depends on the frame
 -- alone.
@@ -66,6 +87,10 @@ abbrev pub slot_of : Instr → Frame → Option Value
 slot_of (instr.Load s) f = slice_get f.slots s
 slot_of _ f = None
 
+abbrev pub is_launch : Instr → Bool
+is_launch (instr.Launch task s line args) = true
+is_launch _ = false
+
 -- the ways in which an instance ends
 abbrev pub IsOver : Yield → Type 0
 IsOver (yield.End v) = Unit {0}
@@ -73,29 +98,36 @@ IsOver (yield.Fault f) = Unit {0}
 IsOver yield.MachineFault = Unit {0}
 IsOver _ = ⊥
 
--- the body of the task, and what an instruction there may ask for
+-- calls at a depth at which there may be any
+abbrev pub MayCall : ℕ → List CallOut → Type 0
+MayCall d [] = Unit {0}
+MayCall d (c ∷ cs) = nat_lt d 64 ≡ true
+
+-- the body of the task, what an instruction there may ask for, and whether it is a launch
 pub record Asking : Type 0 where
   pub body : List Line
   pub key : Option (ℕ × ℕ)
   pub slot : Option Value
+  pub launch : Bool
 
 -- a step from a machine, by an instruction that may ask for this
 pub data Kind (ask : Asking) (f : Machine) : Stepped → Type 0 where
   over : (y : Yield) (m : Machine) → IsOver y → Fixed f m → Kind ask f (stops y m)
-  called : (c : CallOut) (m : Machine) → Fixed f m → suc m.frame.turns ≡ f.frame.turns →
-      m.frame.pc ≡ suc f.frame.pc → nat_lt f.frame.depth 64 ≡ true → Kind ask f (stops (yield.Calls (c ∷ [])) m)
-  makes : (d : Made) (m : Machine) → Fixed f m → m.frame.turns ≡ f.frame.turns →
+  called : (cs : List CallOut) (m : Machine) → Fixed f m → m.frame.turns ≤ f.frame.turns →
+      m.frame.pc ≡ suc f.frame.pc → MayCall f.frame.depth cs → (ask.launch ≡ false → m.frame.later ≡ f.frame.later) →
+      Kind ask f (stops (yield.Calls cs) m)
+  makes : (d : Made) (m : Machine) → Steady f m → m.frame.turns ≡ f.frame.turns →
       m.frame.pc ≡ suc f.frame.pc → Kind ask f (stops (yield.Make d) m)
   wants : (r : RootId) (g : ℕ) (m : Machine) → Fixed f m → m.frame ≡ f.frame → ask.key ≡ Some (r.0, g) →
       IsMissing f r.0 g → Kind ask f (stops (yield.Want r g) m)
   awaits : (i : ℕ) → ask.slot ≡ Some (Pending i) → Kind ask f (stops (yield.Await i) f)
-  nexted : (m : Machine) → Fixed f m → m.frame.turns ≡ f.frame.turns → m.frame.pc ≡ suc f.frame.pc →
+  nexted : (m : Machine) → Steady f m → m.frame.turns ≡ f.frame.turns → m.frame.pc ≡ suc f.frame.pc →
       Kind ask f (goes m)
-  printed : (t : List ℕ) (m : Machine) → Fixed f m → m.frame.turns ≡ f.frame.turns →
+  printed : (t : List ℕ) (m : Machine) → Steady f m → m.frame.turns ≡ f.frame.turns →
       m.frame.pc ≡ suc f.frame.pc → Kind ask f (prints t m)
-  jumped : (m : Machine) → Fixed f m → m.frame.turns ≡ f.frame.turns →
+  jumped : (m : Machine) → Steady f m → m.frame.turns ≡ f.frame.turns →
       may_jump ask.body f.frame.pc m.frame.pc ≡ true → Kind ask f (goes m)
-  turned : (m : Machine) → Fixed f m → suc m.frame.turns ≡ f.frame.turns → Kind ask f (goes m)
+  turned : (m : Machine) → Steady f m → suc m.frame.turns ≡ f.frame.turns → Kind ask f (goes m)
 
 -- a machine with the frame of another one, and parts of the same points
 pub record Filling (f m : Machine) : Type 0 where
@@ -107,7 +139,6 @@ pub filling_fixed : (f m : Machine) → Filling f m → Fixed f m
 filling_fixed f m e = record {
   task = ap (λ (x : Frame). x.task) e.frame;
   slots = ap (λ (x : Frame). length x.slots) e.frame;
-  later = ap (λ (x : Frame). x.later) e.frame;
   depth = ap (λ (x : Frame). x.depth) e.frame;
   own = ap (λ (x : Frame). x.own) e.frame;
   needs = ap (λ (x : Frame). x.needs) e.frame;
@@ -117,13 +148,13 @@ filling_fixed f m e = record {
 
 -- a machine itself, at another place with another stack, and with other turns
 pub fixed : (f : Machine) → Fixed f f
-fixed f = record { task = refl; slots = refl; later = refl; depth = refl; own = refl; needs = refl; parts = refl; fits = λ h. h }
+fixed f = record { task = refl; slots = refl; depth = refl; own = refl; needs = refl; parts = refl; fits = λ h. h }
 
-pub fixed_at : (pc : ℕ) (st : List Value) (m : Machine) → Fixed m (at pc st m)
-fixed_at pc st m = record { task = refl; slots = refl; later = refl; depth = refl; own = refl; needs = refl; parts = refl; fits = λ h. h }
+pub steady_at : (pc : ℕ) (st : List Value) (m : Machine) → Steady m (at pc st m)
+steady_at pc st m = record { task = refl; slots = refl; later = refl; depth = refl; own = refl; needs = refl; parts = refl; fits = λ h. h }
 
 pub fixed_turns : (n : ℕ) (m : Machine) → Fixed m (with_turns n m)
-fixed_turns n m = record { task = refl; slots = refl; later = refl; depth = refl; own = refl; needs = refl; parts = refl; fits = λ h. h }
+fixed_turns n m = record { task = refl; slots = refl; depth = refl; own = refl; needs = refl; parts = refl; fits = λ h. h }
 
 module _ (ask : Asking) where
   -- ---- the words of which instructions are made
@@ -137,13 +168,13 @@ module _ (ask : Asking) where
   stops_kind y m o = over y m o (fixed m)
 
   pub next_kind : (st : List Value) (m : Machine) → Kind ask m (next st m)
-  next_kind st m = nexted _ (fixed_at _ st m) refl refl
+  next_kind st m = nexted _ (steady_at _ st m) refl refl
 
   pub yields_kind : (d : Made) (st : List Value) (m : Machine) →
       Kind ask m (yields (yield.Make d) (at (suc m.frame.pc) st m))
   yields_kind d st m = when_kind m (nat_lt (suc m.frame.pc) (2 ^ 32)) _ _
-      (makes d _ (fixed_at _ st m) refl refl)
-      (over _ _ tt (fixed_at _ st m))
+      (makes d _ (steady_at _ st m) refl refl)
+      (over _ _ tt (steady_fixed m _ (steady_at _ st m)))
 
   pub number_kind : (f : Machine) (st : List Value) (m : Machine) (more : ℤ → List Value → Stepped) → Fixed f m →
       ((z : ℤ) (rest : List Value) → st ≡ Number z ∷ rest → Kind ask f (more z rest)) → Kind ask f (on_number st m more)

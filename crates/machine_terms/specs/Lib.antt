@@ -5,6 +5,7 @@ pub mod Parts
 pub mod Pointers
 pub mod Regions
 pub mod Calls
+pub mod Launches
 pub mod Segments
 pub mod Touches
 pub mod Stacks

@@ -7,7 +7,7 @@ use Rattle.code_rules.specs.Pieces.{Piece}
 use Rattle.fit_rules.specs.Shapes.{Each}
 use Rattle.fit_rules.specs.Marks.{Mark, stacked}
 use Rattle.fit_rules.specs.Fits.{Program}
-use Rattle.marked_code.specs.Marked.{Leads, leads_on, leads_storing, leads_nowhere, leads_back, leads_coloured, leads_loaded, leads_pointed, leads_child, leads_calling, leads_waiting, leads_making, leads_cutting, leads_colouring, leads_minus, leads_meet, leads_join, leads_image, leads_preimage, Typed, typed_empty, typed_op, typed_both, typed_into, typed_from, typed_and, typed_or, typed_if, typed_branch, typed_loop, typed_rounds, typed_points}
+use Rattle.marked_code.specs.Marked.{Leads, leads_on, leads_storing, leads_nowhere, leads_back, leads_coloured, leads_loaded, leads_pointed, leads_child, leads_launching, leads_calling, leads_waiting, leads_making, leads_cutting, leads_colouring, leads_minus, leads_meet, leads_join, leads_image, leads_preimage, Typed, typed_empty, typed_op, typed_both, typed_into, typed_from, typed_and, typed_or, typed_if, typed_branch, typed_loop, typed_rounds, typed_points}
 
 module _ (g : Program) (t : TaskCode) (k : ℕ) where
   long_both : (n : ℕ) (ms ns : List Mark) → Each (λ y. length y.slots ≡ n) ms → Each (λ y. length y.slots ≡ n) ns →
@@ -29,6 +29,7 @@ module _ (g : Program) (t : TaskCode) (k : ℕ) where
   led_long _ _ _ (leads_loaded m i s e h) = refl
   led_long _ _ _ (leads_pointed m i a ss e n q) = refl
   led_long _ _ _ (leads_child m i sp a ss c e n h q) = refl
+  led_long _ _ _ (leads_launching m task s line args callee e p b es h o) = refl
   led_long _ _ _ (leads_calling m task n callee args rest e p b tk o) = refl
   led_long _ _ _ (leads_waiting m i s e n h) = refl
   led_long _ _ _ (leads_making m sp i c ss e q l os oss) = refl

@@ -17,9 +17,9 @@ use Rattle.lane_kernels.specs.declared.numbers.Mode.TheVariants as mode
 use Rattle.fit_rules.specs.Shapes.{Among, Each, index, truth, space, region, partition, awaited, own_as, unknown}
 use Rattle.fit_rules.specs.Marks.{child_in, colour_in, point_in, ColoursStand, counts, in_slot, lies, Mark, parted, Suits, Into, stacked, the_colour, top_colour, top_at, top_parted, topped}
 use Rattle.fit_rules.specs.Fits.{Program}
-use Rattle.fit_rules.specs.Sound.{Effect, Opens, RoundNumber, RoundPoint, Takes, To, ToStored, Sound, straight, stored, jumps, jumps_if_not, jumps_and, jumps_or, counts_numbers, counts_points, takes_turn, returns, returns_value, colours, colours_by, colours_point, takes_child, awaits, makes_root, makes_call, makes_equal, makes_by_field, makes_minus, makes_meet, makes_join, makes_image, makes_preimage, IsOther, Allowed, HasPartition, HasRegion}
+use Rattle.fit_rules.specs.Sound.{Effect, Opens, RoundNumber, RoundPoint, Takes, To, ToStored, Sound, straight, stored, jumps, jumps_if_not, jumps_and, jumps_or, counts_numbers, counts_points, takes_turn, returns, returns_value, colours, colours_by, colours_point, takes_child, awaits, makes_root, makes_call, makes_launch, makes_equal, makes_by_field, makes_minus, makes_meet, makes_join, makes_image, makes_preimage, IsOther, Allowed, HasArgument, HasPartition, HasRegion, OpensEach}
 use Rattle.marked_code.specs.Bodies.{MarksAt}
-use Rattle.marked_code.specs.Marked.{Leads, leads_on, leads_storing, leads_nowhere, leads_back, leads_coloured, leads_loaded, leads_pointed, leads_child, leads_calling, leads_waiting, leads_making, leads_cutting, leads_colouring, leads_minus, leads_meet, leads_join, leads_image, leads_preimage, Typed, typed_empty, typed_op, typed_both, typed_into, typed_from, typed_and, typed_or, typed_if, typed_branch, typed_loop, typed_rounds, typed_points}
+use Rattle.marked_code.specs.Marked.{Leads, leads_on, leads_storing, leads_nowhere, leads_back, leads_coloured, leads_loaded, leads_pointed, leads_child, leads_launching, leads_calling, leads_waiting, leads_making, leads_cutting, leads_colouring, leads_minus, leads_meet, leads_join, leads_image, leads_preimage, Typed, typed_empty, typed_op, typed_both, typed_into, typed_from, typed_and, typed_or, typed_if, typed_branch, typed_loop, typed_rounds, typed_points}
 
 -- a number is below another one or not
 pub below : (a b : ℕ) → (a < b) ⊎ (b ≤ a)
@@ -161,6 +161,9 @@ module _ (g : Program) (t : TaskCode) (k : ℕ) where
   led _ _ _ pc e (leads_child m i sp a ss c es n h q) to = takes_child i sp a ss c (at_mark pc m e (λ y. y.stack ≡ a ∷ ss) es) n
       (at_mark pc m e (λ y. HasPartition y sp i) h) (at_mark pc m e (λ y. Among y.top (top_colour c)) q)
       (at_mark pc m e (λ y. To g t k (topped y (region sp unknown ∷ ss) (top_at (child_in i c))) (suc pc)) to)
+  led _ _ _ pc e (leads_launching m task s line args callee there p b es h o) to = makes_launch task s line args callee there p b
+      (at_mark pc m e (λ y. slice_get y.slots s ≡ Some space) es) (at_mark pc m e (λ y. Each (HasArgument y) args) h)
+      (at_mark pc m e (λ y. OpensEach g t y task callee args) o) (at_mark pc m e (λ y. To g t k y (suc pc)) to)
   led _ _ _ pc e (leads_calling m task n callee args rest there p b tk o) to = makes_call task n callee args rest there p b
       (at_mark pc m e (λ y. Takes n y.stack [] args rest) tk) (at_mark pc m e (λ y. Opens g t y task callee args) o)
       (at_mark pc m e (λ y. To g t k (stacked y (awaited (g.results task) ∷ rest)) (suc pc)) to)

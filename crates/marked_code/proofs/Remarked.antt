@@ -15,8 +15,8 @@ use Rattle.task_code.specs.declared.code.NeedCode.{NeedCode}
 use Rattle.region_tree.specs.Requirements.{IsWithin}
 use Rattle.machine_terms.specs.declared.value.Value.{Value}
 use Rattle.fit_rules.specs.Fits.{declared_claims, own_claims, root_claims, Program, Covers, made_it, declares_it, reads_and_writes}
-use Rattle.fit_rules.specs.Sound.{Allowed, Through, Effect, does_num, does_load, does_load_as, does_drop, does_compute, does_compare, does_pointers_equal, does_pointers_differ, does_negate, does_wrap, does_invert, does_point, does_is_null, does_assert, does_move, does_element, does_read, does_write, does_reduce, does_fill, does_cast, does_cast_pointer, does_space, does_colors, does_child, does_print}
-use Rattle.marked_code.specs.Marked.{Leads, leads_on, leads_storing, leads_nowhere, leads_back, leads_coloured, leads_loaded, leads_pointed, leads_child, leads_calling, leads_waiting, leads_making, leads_cutting, leads_colouring, leads_minus, leads_meet, leads_join, leads_image, leads_preimage, Typed, typed_empty, typed_op, typed_both, typed_into, typed_from, typed_and, typed_or, typed_if, typed_branch, typed_loop, typed_rounds, typed_points}
+use Rattle.fit_rules.specs.Sound.{Allowed, OpensWith, Through, Effect, does_num, does_load, does_load_as, does_drop, does_compute, does_compare, does_pointers_equal, does_pointers_differ, does_negate, does_wrap, does_invert, does_point, does_is_null, does_assert, does_move, does_element, does_read, does_write, does_reduce, does_fill, does_cast, does_cast_pointer, does_space, does_colors, does_child, does_print}
+use Rattle.marked_code.specs.Marked.{Leads, leads_on, leads_storing, leads_nowhere, leads_back, leads_coloured, leads_loaded, leads_pointed, leads_child, leads_launching, leads_calling, leads_waiting, leads_making, leads_cutting, leads_colouring, leads_minus, leads_meet, leads_join, leads_image, leads_preimage, Typed, typed_empty, typed_op, typed_both, typed_into, typed_from, typed_and, typed_or, typed_if, typed_branch, typed_loop, typed_rounds, typed_points}
 use Rattle.marked_code.specs.Bodies.{MarksAt}
 
 -- the marks of a list are those of the places from the front
@@ -112,6 +112,14 @@ own_remarked g ms x [] = refl
 own_remarked g ms x (r ∷ rs) = ap (λ y. y ++ own_claims (remarked g ms) x rs) (root_remarked g ms r (x.spaces r) (x.points r))
     ∙ ap (λ y. root_claims g r (x.spaces r) (x.points r) ++ y) (own_remarked g ms x rs)
 
+opens_remarked : (g : Program) (ms : ℕ → ℕ → Mark) (x : World) (t : TaskCode) (task : ℕ) (callee : TaskCode) (ws : List Value) →
+    OpensWith g t x task callee ws → OpensWith (remarked g ms) t x task callee ws
+opens_remarked g ms x t task callee ws o = (
+  o.0,
+  needed_remarked g ms x ws callee.needs o.1,
+  subst (λ z. IsWithin (declared_claims callee.needs ws) (declared_claims t.needs x.args ++ z)) (sym (own_remarked g ms x x.own)) o.2,
+)
+
 module _ (g : Program) (t : TaskCode) (k : ℕ) (ms : ℕ → ℕ → Mark) (begins : Begins g ms) where
   leads_remarked : (m : Mark) (i : Instr) (n : Mark) → Leads g t k m i n → Leads (remarked g ms) t k m i n
   leads_remarked _ _ _ (leads_on m i us e) = leads_on m i us (effect_remarked g t ms m i _ us e)
@@ -122,17 +130,12 @@ module _ (g : Program) (t : TaskCode) (k : ℕ) (ms : ℕ → ℕ → Mark) (beg
   leads_remarked _ _ _ (leads_loaded m i s e h) = leads_loaded m i s e h
   leads_remarked _ _ _ (leads_pointed m i a ss e n q) = leads_pointed m i a ss e n q
   leads_remarked _ _ _ (leads_child m i sp a ss c e n h q) = leads_child m i sp a ss c e n h q
+  leads_remarked _ _ _ (leads_launching m task s line args callee there p b es h o) =
+      leads_launching m task s line args callee there p b es h
+      (begins task callee there, λ x vs st ws c r q l e. opens_remarked g ms x t task callee ws (o.1 x vs st ws c r q l e))
   leads_remarked _ _ _ (leads_calling m task n callee args rest there p b tk o) =
-      leads_calling m task n callee args rest there p b tk (
-        begins task callee there,
-        λ x vs st ws r h a.
-            let y = o.1 x vs st ws r h a in (
-              y.0,
-              needed_remarked g ms x ws callee.needs y.1,
-              subst (λ z. IsWithin (declared_claims callee.needs ws) (declared_claims t.needs x.args ++ z))
-                  (sym (own_remarked g ms x x.own)) y.2,
-            ),
-      )
+      leads_calling m task n callee args rest there p b tk
+      (begins task callee there, λ x vs st ws r h a. opens_remarked g ms x t task callee ws (o.1 x vs st ws r h a))
   leads_remarked _ _ _ (leads_waiting m i s e n h) = leads_waiting m i s e n h
   leads_remarked _ _ _ (leads_making m sp i c ss e there l os oss) = leads_making m sp i c ss e there l os oss
   leads_remarked _ _ _ (leads_cutting m s sp ss e h) = leads_cutting m s sp ss e h

@@ -1,5 +1,6 @@
 -- Pieces of code with a mark for each line: the code leads from mark to mark.
 use Rattle.std.specs.Prelude.{◌≡◌, ℕ, ◌<◌, ◌≤◌, ℤ, Bool, true, false, ◌||◌, List, [], ◌∷◌, ◌++◌, length, Option, Some, slice_get}
+use Rattle.index_launch.specs.declared.points.LaunchArg.{LaunchArg}
 use Rattle.lane_kernels.specs.declared.numbers.Mode.TheVariants as mode
 use Rattle.task_code.specs.declared.code.TaskCode.{TaskCode}
 use Rattle.task_code.specs.declared.instr.Instr.{Instr}
@@ -9,7 +10,7 @@ use Rattle.task_code.specs.declared.code.SpaceCode.{SpaceCode}
 use Rattle.fit_rules.specs.Shapes.{Among, Each, index, Shape, truth, space, region, partition, own_as, unknown, awaited, Numeric, NumberIs}
 use Rattle.fit_rules.specs.Marks.{child_in, Colour, colour_in, point_in, ColoursStand, counts, in_slot, lies, Mark, Into, parted, Stores, stacked, the_colour, top_colour, top_at, top_parted, topped}
 use Rattle.fit_rules.specs.Fits.{Program}
-use Rattle.fit_rules.specs.Sound.{Allowed, Effect, HasPartition, HasRegion, IsOther, Opens, RoundNumber, RoundPoint, Takes}
+use Rattle.fit_rules.specs.Sound.{Allowed, Effect, HasArgument, HasPartition, HasRegion, IsOther, Opens, OpensEach, RoundNumber, RoundPoint, Takes}
 
 module _ (g : Program) (t : TaskCode) (k : ℕ) where
   -- an instruction leads from a mark to a mark; behind a return any mark may stand
@@ -35,6 +36,11 @@ module _ (g : Program) (t : TaskCode) (k : ℕ) where
     leads_child : (m : Mark) (i : ℕ) (sp : Option ℕ) (a : Shape) (ss : List Shape) (c : Colour) → m.stack ≡ a ∷ ss → Numeric a →
         HasPartition m sp i → Among m.top (top_colour c) →
         Leads m (instr.Child i) (topped m (region sp unknown ∷ ss) (top_at (child_in i c)))
+    -- a launch, whose results nobody keeps
+    leads_launching : (m : Mark) (task s line : ℕ) (args : List LaunchArg) (callee : TaskCode) →
+        slice_get g.code.tasks task ≡ Some callee → callee.params ≡ length args → 0 < length callee.body →
+        slice_get m.slots s ≡ Some space → Each (HasArgument m) args → OpensEach g t m task callee args →
+        Leads m (instr.Launch task s line args) m
     -- a call, whose result may be pending, and where it is waited for
     leads_calling : (m : Mark) (task n : ℕ) (callee : TaskCode) (args rest : List Shape) →
         slice_get g.code.tasks task ≡ Some callee → callee.params ≡ n → 0 < length callee.body →

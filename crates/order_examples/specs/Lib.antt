@@ -1,4 +1,5 @@
 pub mod Words
 pub mod Starts
 pub mod Calls
+pub mod Launches
 pub mod Roots

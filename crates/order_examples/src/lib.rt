@@ -4,6 +4,7 @@
 #![tactic(auto)]
 
 ghost use Rattle.order_examples.specs.Calls.{depth_has_a_limit, fault_of_child_decides, greater_needs_break, narrow_task_breaks, no_points_are_needed, turns_are_fresh, values_come_back, void_needs_break};
+ghost use Rattle.order_examples.specs.Launches.{calls_run_before_the_fault, each_call_runs, fault_of_call_decides};
 ghost use Rattle.order_examples.specs.Roots.{read_sees_reduction, reductions_are_folded, roots_of_child_are_gone, sets_that_leave_break};
 ghost use Rattle.order_examples.specs.Starts.{absent_start_is_void, job_is_started, narrow_start_is_void, needy_start_is_void, wrong_inputs_are_void};
 
@@ -27,6 +28,13 @@ pub fn calls()
     ensures turns { turns_are_fresh }
     ensures depth { depth_has_a_limit }
     ensures fault { fault_of_child_decides }
+{}
+
+/// Launches: each call runs whole, and then a fault comes that the launch met.
+pub fn launches()
+    ensures each_call { each_call_runs }
+    ensures before_the_fault { calls_run_before_the_fault }
+    ensures fault_of_call { fault_of_call_decides }
 {}
 
 /// Reductions, roots of children, and sets that leave their region.

@@ -1,6 +1,5 @@
 -- What a machine may be given where it stopped, and that an instruction waits at most once.
-use Rattle.std.proofs.Common.{◌≡◌, ℕ, zero, suc, ◌+◌, ◌≤◌, ℤ, List, [], ◌∷◌, Option, Some, None, true, refl, sym, ap, ◌∙◌, subst, arith}
-use Rattle.std.specs.Prelude.{nat_lt}
+use Rattle.std.proofs.Common.{◌≡◌, ℕ, zero, suc, ◌+◌, ◌≤◌, ℤ, List, Option, Some, None, refl, sym, ap, ◌∙◌, subst, arith}
 use Rattle.std.proofs.lemmas.Option.{none-some}
 use Rattle.task_code.specs.declared.code.Code.{Code}
 use Rattle.task_code.specs.declared.code.Line.{Line}
@@ -15,7 +14,7 @@ use Rattle.machine_terms.specs.Machine.{Machine, Stepped, goes, prints, stops}
 use Rattle.machine_terms.specs.Jumps.{fetch}
 use Rattle.machine_terms.specs.Parts.{part_of}
 use Rattle.machine_terms.specs.Segments.{step}
-use Rattle.machine_terms.proofs.StepKinds.{Kind, over, called, makes, wants, awaits, nexted, printed, jumped, turned, IsOver, key_of, slot_of}
+use Rattle.machine_terms.proofs.StepKinds.{Kind, over, called, makes, wants, awaits, nexted, printed, jumped, turned, IsOver, MayCall, key_of, slot_of}
 use Rattle.machine_terms.proofs.Kept.{asked, key_at, slot_at, step_kind}
 
 -- ---- what a machine is given
@@ -38,7 +37,7 @@ Answers n z f g = (o : Option Line) → slot_at o f ≡ Some (Pending n) → slo
 -- whatever a machine is given where it stopped, this holds of it then
 abbrev pub AfterStop : (Machine → Type 0) → Yield → Machine → Type 0
 AfterStop P (yield.Calls cs) x =
-    (nat_lt x.frame.depth 64 ≡ true) × ((m : Machine) → Passed x.frame m.frame → P m)
+    MayCall x.frame.depth cs × ((m : Machine) → Passed x.frame m.frame → P m)
 AfterStop P (yield.Make d) x = (m : Machine) → Passed x.frame m.frame → P m
 AfterStop P (yield.Want r g) x = (m : Machine) → Passed x.frame m.frame → AsksAlike x.frame m.frame →
     (part_of m.parts r.0 g ≡ None → ⊥) → P m
@@ -112,7 +111,7 @@ module _ (body : List Line) where
   quiet_part : (m : Machine) (root g : ℕ) (s : Stepped) → Kind (asked body m.frame) m s →
       (asked body m.frame).key ≡ Some (root, g) → (part_of m.parts root g ≡ None → ⊥) → Quiet s
   quiet_part m root g _ (over y x o f) e h = over_quiet y x o
-  quiet_part m root g _ (called cs x f a b c) e h = tt
+  quiet_part m root g _ (called cs x f a b c k) e h = tt
   quiet_part m root g _ (makes d x f a b) e h = tt
   quiet_part m root g _ (wants r k x f a b c) e h =
       let same : (r.0, k) ≡ (root, g) = ap (field_in (root, g)) (sym b ∙ e) in
@@ -128,7 +127,7 @@ module _ (body : List Line) where
   quiet_child : (m : Machine) (z : ℤ) (s : Stepped) → Kind (asked body m.frame) m s →
       (asked body m.frame).slot ≡ Some (Number z) → Quiet s
   quiet_child m z _ (over y x o f) e = over_quiet y x o
-  quiet_child m z _ (called cs x f a b c) e = tt
+  quiet_child m z _ (called cs x f a b c k) e = tt
   quiet_child m z _ (makes d x f a b) e = tt
   quiet_child m z _ (wants r k x f a b c) e =
       none-some (r.0, k) (sym (slot_or_key (fetch body m.frame.pc) m.frame (Number z) e) ∙ b)
@@ -189,7 +188,7 @@ module _ (code : Code) (body : List Line) where
       h y a.pc a.turns (quiet_child body y z (step code body y) (step_kind code body y)
       (ap (λ n. slot_at (fetch body n) y.frame) a.pc ∙ b (fetch body m.frame.pc) p))
   once c m _ (over y x o f) h q = over_stop _ y x o
-  once c m _ (called o x f a b d) h q = one_more c (stops (yield.Calls (o ∷ [])) x) (q tt)
+  once c m _ (called cs x f a b d k) h q = one_more c (stops (yield.Calls cs) x) (q tt)
   once c m _ (makes d x f a b) h q = one_more c (stops (yield.Make d) x) (q tt)
   once c m _ (nexted x f a b) h q = one_more c (goes x) (q tt)
   once c m _ (printed t x f a b) h q = one_more c (prints t x) (q tt)

@@ -73,8 +73,9 @@ module _ (code : Code) (turns : ℕ) where
   resume_same : (a c : Runner) (d : ℕ) → (nat_lt d 64 ≡ true → AreAlike d a c) → (body : List Line) (n : ℕ)
       (y : Yield) (m : Machine) (i : Instance) → m.frame.depth ≡ d → AfterStop (Within code body n) y m →
       resume_in code turns a (frame_after y m.frame) y i ≡ resume_in code turns c (frame_after y m.frame) y i
-  resume_same a c d h body n (yield.Calls cs) m i l w =
-      calls_same a c d (h (ap (λ k. nat_lt k 64) (sym l) ∙ w.0)) cs (give_all (record i { frame = m.frame })) l
+  resume_same a c d h body n (yield.Calls []) m i l w = refl
+  resume_same a c d h body n (yield.Calls (o ∷ cs)) m i l w =
+      calls_same a c d (h (ap (λ k. nat_lt k 64) (sym l) ∙ w.0)) (o ∷ cs) (give_all (record i { frame = m.frame })) l
   resume_same a c d h body n (yield.Want r g) m i l w = refl
   resume_same a c d h body n (yield.Await k) m i l w = refl
   resume_same a c d h body n (yield.Make v) m i l w = refl

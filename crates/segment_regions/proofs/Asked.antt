@@ -1,12 +1,11 @@
--- What a segment stops for: a part that its frame needs and that isn't held, or one call.
-use Rattle.std.proofs.Common.{◌≡◌, ◌==◌, ◌++◌, ℕ, zero, suc, List, [], ◌∷◌, Bool, true, false, Option, Some, None, refl, sym}
+-- What a segment wants is a part that its frame needs and that isn't held.
+use Rattle.std.proofs.Common.{◌==◌, ◌++◌, ℕ, zero, suc, List, [], Bool, true, false, Option, Some, None, sym}
 use Rattle.std.specs.Prelude.{length, slice_get}
 use Rattle.regent_tree.specs.declared.outcome.Fault.{Fault}
 use Rattle.task_code.specs.declared.code.Code.{Code}
 use Rattle.task_code.specs.declared.code.Line.{Line}
 use Rattle.task_code.specs.declared.code.TaskCode.{TaskCode}
 use Rattle.machine_terms.specs.declared.frame.Before.{Before}
-use Rattle.machine_terms.specs.declared.outcome.CallOut.{CallOut}
 use Rattle.machine_terms.specs.declared.outcome.Yield.{Yield}
 use Rattle.machine_terms.specs.declared.outcome.Yield.TheVariants as yield
 use Rattle.machine_terms.specs.Machine.{Machine, Stepped, goes, prints, stops}
@@ -17,7 +16,6 @@ use Rattle.machine_terms.proofs.StepKinds.{IsOver, Kind, awaits, called, jumped,
 
 abbrev pub IsAsked : Yield → Machine → Type 0
 IsAsked (yield.Want r field) m = IsMissing m r.0 field
-IsAsked (yield.Calls cs) m = (c : CallOut) × (cs ≡ c ∷ [])
 IsAsked _ m = Unit {0}
 
 abbrev StepIsAsked : Stepped → Type 0
@@ -36,7 +34,7 @@ over_asked yield.MachineFault m o = tt
 module _ (code : Code) (body : List Line) where
   by_kind : (m : Machine) (s : Stepped) → Kind (asked body m.frame) m s → StepIsAsked s
   by_kind m _ (over y x o f) = over_asked y x o
-  by_kind m _ (called o x f a b c) = (o, refl)
+  by_kind m _ (called cs x f a b c k) = tt
   by_kind m _ (makes d x f a b) = tt
   by_kind m _ (wants r g x f same k missing) = missing_alike m x r.0 g (sym same) (sym f.parts) missing
   by_kind m _ (awaits n a) = tt

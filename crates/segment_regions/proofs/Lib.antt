@@ -1,5 +1,6 @@
 pub mod Words
 pub mod Instructions
+pub mod Launches
 pub mod Values
 pub mod Asked
 pub mod Wants

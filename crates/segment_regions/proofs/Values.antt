@@ -32,6 +32,7 @@ use Rattle.machine_terms.specs.Segments.{Stopped, act, act_at, enough, frame_aft
 use Rattle.machine_terms.proofs.Kept.{by_slots}
 use Rattle.segment_regions.specs.Values.{AfterHas, ComesFrom, FrameHas, SegmentsKeepValues, YieldHas, child, had, number, pending, space, values_of}
 use Rattle.segment_regions.proofs.Instructions.{arithmetic_keeps, call_keeps, cast_keeps, cast_pointer_keeps, child_keeps, column_keeps, compare_keeps, comparison_keeps, count_keeps, discard_keeps, element_keeps, fill_keeps, jump_keeps, load_keeps, move_keeps, partition_made, point_keeps, points_keep, printing_keeps, read_keeps, replaced_keeps, root_keeps, set_keeps, space_of_keeps, store_keeps}
+use Rattle.segment_regions.proofs.Launches.{launch_keeps}
 use Rattle.segment_regions.proofs.Words.{FrameFrom, IsKept, IsKeptFrom, Keeps, choose_keeps, colours_keep, kept_from_none, next_keeps, number_keeps, number_next, partition_keeps, pushed, region_keeps, space_keeps, taken_have, turn_keeps, two_keeps, when_keeps}
 
 module _ (V : Value → Type 0) (from : ℕ) (k : IsKeptFrom V from) (code : Code) where
@@ -97,6 +98,7 @@ module _ (V : Value → Type 0) (from : ℕ) (k : IsKeptFrom V from) (code : Cod
   act_keeps body (instr.NextNumber c l v to) line m h = count_keeps V from k c v to line m (slice_get m.frame.slots c) (slice_get m.frame.slots l) h
   act_keeps body (instr.NextPoint s c v ptr to) line m h = points_keep V from k c v ptr to line m (slice_get m.frame.slots s) (slice_get m.frame.slots c) h
   act_keeps body (instr.Call task n) line m h = call_keeps V from k (slice_get code.tasks task) task n line m h
+  act_keeps body (instr.Launch task s call_line args) line m h = launch_keeps V from k (slice_get code.tasks task) task s call_line args line m h
   act_keeps body (instr.Print ps) line m h = printing_keeps V from k ps (take_values (count_numbers ps) m.frame.stack []) m h
       (taken_have V from k (count_numbers ps) m.frame.stack [] h.stack (All-nil V))
   act_keeps body instr.Assert line m h = number_keeps V from k m.frame.stack m _ h h.stack (λ z st g. when_keeps V from k (int_eq z (pos 0)) _ _ (h, tt) (next_keeps V from k st m h g))

@@ -26,6 +26,7 @@ use Rattle.machine_terms.specs.Segments.{act, act_at, step}
 use Rattle.segment_renaming.specs.Renaming.{Names, IsOneToOne, region_to, value_to, part_to, frame_to, machine_to, stepped_to}
 use Rattle.segment_renaming.proofs.Alike.{sets_alike, region_slot_to, regions_to, coloured_to, aimed_to, aim_to, find_alike, set_part_to, lies_alike}
 use Rattle.segment_renaming.proofs.Words.{Same, done, breaks, same_when, when_alike, same_choice, same_number, same_two, same_turn, same_space, same_colours, same_region, same_partition, same_made, same_column}
+use Rattle.segment_renaming.proofs.Launches.{launch_same}
 use Rattle.segment_renaming.proofs.Operations.{load_same, slot_same, store_same, discard_same, arithmetic_same, jump_same, count_same, points_same, pointer_same, move_same, cast_same, cast_pointer_same, element_same, take_same_values, call_same, printing_same, space_same, root_same, child_same, colors_same}
 
 module _ (n : Names) (one : IsOneToOne n) where
@@ -199,6 +200,7 @@ module _ (n : Names) (one : IsOneToOne n) where
       (slot_same n m.frame.slots c (λ o. points_round c v ptr to line (machine_to n m) (option_map (value_to n) (slice_get m.frame.slots s)) o) _
       (points_same n c v ptr to line m (slice_get m.frame.slots s) (slice_get m.frame.slots c)))
   act_same code body (instr.Call task k) line m = call_same n (slice_get code.tasks task) task k line m
+  act_same code body (instr.Launch task s call_line args) line m = launch_same n (slice_get code.tasks task) task s call_line args line m
   act_same code body (instr.Print ps) line m = take_same_values n (count_numbers ps) m
       (λ t. printing ps t (machine_to n m)) (λ t. printing ps t m) (λ t. printing_same n ps t m)
   act_same code body instr.Assert line m = same_number n m.frame.stack m _ _ (λ z st.

@@ -1,5 +1,5 @@
 -- The code of blocks has marks.
-use Rattle.std.proofs.Common.{inl, inr, ⊎_elim, ℕ, ◌<◌, [], ◌∷◌, true, ◌&&◌, Some, None, refl, sym, ap, ◌∙◌, subst, arith, suc}
+use Rattle.std.proofs.Common.{inl, ⊎_elim, ℕ, ◌<◌, [], ◌∷◌, true, ◌&&◌, Some, None, refl, sym, ap, ◌∙◌, subst, arith, suc}
 use Rattle.std.specs.Prelude.{length}
 use Rattle.regent_tree.specs.declared.statement.How.TheVariants as how
 use Rattle.regent_tree.specs.declared.typing.Bound.{Bound}
@@ -20,7 +20,6 @@ use Rattle.code_laws.proofs.Told.{arms_grow, block_grows, else_grows}
 use Rattle.code_laws.specs.Steps.{Forms}
 use Rattle.code_laws.specs.Pointers.{BeginsWith}
 use Rattle.code_laws.specs.Typed.{IsIndexed, IsKeepable, IsTyped, element_field, IsTypedForm, AreTypedArms, IsTypedElse, IsTypedBlock}
-use Rattle.fit_rules.specs.Shapes.{index}
 use Rattle.marked_code.specs.Marked.{leads_nowhere, typed_op}
 use Rattle.code_laws.proofs.Wider.{any_field, assigned, counting, zeroed}
 use Rattle.sound_code.specs.Named.{HasPartBeside, HasSlots, loops_in}
@@ -43,13 +42,11 @@ use Rattle.sound_code.proofs.Pieces.{piece_marked, piece_said}
 use Rattle.sound_code.proofs.Started.{said_started, started}
 use Rattle.sound_code.proofs.Cuts.{cut_plain, cut_same}
 use Rattle.sound_code.proofs.NoCuts.{worth_no_partition}
-use Rattle.sound_code.proofs.Bindings.{over_points, parts_told, widens}
-use Rattle.sound_code.proofs.Domains.{domain_marked}
-use Rattle.sound_code.proofs.Taken.{looped_parts, taken_scoped}
+use Rattle.sound_code.proofs.Bindings.{parts_told, widens}
+use Rattle.sound_code.proofs.Taken.{looped_parts}
 use Rattle.sound_code.proofs.Besides.{written_no_child}
-use Rattle.sound_code.proofs.Numbering.{numbered_more}
 use Rattle.sound_code.proofs.Behind.{BeginsSo, after_arms_ground, after_block_ground, after_form_ground, counted_simple}
-use Rattle.sound_code.proofs.Grounds.{facts_more, facts_among}
+use Rattle.sound_code.proofs.Grounds.{facts_among}
 use Rattle.sound_code.proofs.Grown.{ground_block, ground_looping}
 use Rattle.sound_code.proofs.Steady.{steady_below}
 use Rattle.sound_code.proofs.Told.{ToldAll, ToldBlock, ToldForm, ToldList, told_arms, told_call_form, told_first, told_head, told_heads, told_listed, told_statement}
@@ -63,11 +60,11 @@ use Rattle.sound_code.proofs.Filling.{fill_marked}
 use Rattle.sound_code.proofs.Folds.{folded}
 use Rattle.sound_code.proofs.FurtherTargets.{behind_reduced, behind_set, point_reduced, point_set}
 use Rattle.sound_code.proofs.PartTargets.{part_reduced, part_reduced_further, part_set, part_set_further}
+use Rattle.sound_code.proofs.LoopCode.{asked_inside, loop_marked, round}
 use Rattle.sound_code.proofs.Loops as numbers
 use Rattle.sound_code.proofs.Narrowing.{narrow_itself, narrow_then, narrow_long, narrow_into, fewer_facts}
 use Rattle.sound_code.proofs.Prints.{print_marked}
-use Rattle.sound_code.proofs.Rounds.{domain_there, long_round, round_narrow, round_ready}
-use Rattle.sound_code.proofs.PointLoops as points
+use Rattle.sound_code.proofs.Rounds.{long_round, round_narrow, round_ready}
 use Rattle.sound_code.proofs.Stops.{asked_in, FollowedBlock, joined, more_then, on_the_line, stops_both}
 use Rattle.sound_code.proofs.Statements.{begin_marked, Followed, new_name, unchanged, value_marked, bind_marked, assign_marked, return_marked, assert_marked, call_marked, closed_block, while_marked, branch_marked}
 use Rattle.sound_code.proofs.Looping.{may_store}
@@ -183,47 +180,14 @@ module _ (g : Program) (t : TaskCode) (k slots : ℕ) (have : HasSlots t slots) 
     form_marked w m (for_in_form demanded x domain body) looped whole a told within up pc st =
         let u = typed w domain in
         let f = looped_parts forms.keeps w domain _ _ _ looped in
-        let over = domain_marked g t k slots have forms way w m a domain f.0 (asks_first _ _ _ whole)
-        (told_head w.tree w.scope way (for_in_form demanded x domain body) domain refl told) pc st.0 in
-        let tk = over.taken in
-        let bs = w.scope.names in
-        let b : Bound = record {
-          name = x;
-          number = w.scope.next;
-          place = length bs;
-          static_type = taken_from u;
-          by_loop = true;
-        } in
-        let hi : beside w (new_place w) < length m.slots = stored g t k slots have forms way w m a _ _ st.1.0 in
         let lw = looping w x (taken_from u) in
+        let hi : beside w (new_place w) < length m.slots = stored g t k slots have forms way w m a _ _ st.1.0 in
         let end = upto_inner way w.tree w.scope (scope_after_block w.tree lw.scope body) up in
-        let rm = points.round g t k way w.params bs m a.ready a.params hi tk.D tk.V tk.ptr tk.domain in
-        let hm = points.head g t k way w.params bs m a.ready a.params hi tk.D tk.V tk.ptr tk.domain in
-        let fs = points.counting g t k way w.params bs m a.ready a.params hi tk.D tk.V tk.ptr tk.domain in
-        let inner = block_marked lw rm body f.1 (asks_second _ _ _ whole) (record {
-          hands = a.hands;
-          ready = round_ready way w.params bs m a.ready tk.D index tk.V fs hi b refl tk.shape (numbered_more bs b tk.D tk.numbered.0) tt
-              (numbered_more bs b tk.V tk.numbered.1) (points.are_counts g t k way w.params bs m a.ready a.params hi tk.D tk.V tk.ptr tk.domain)
-              (tk.beside rm.slots (domain_there way w.params bs m a.ready tk.D index tk.V fs hi));
-          params = a.params;
-          result = a.result;
-          room = long_round way w.params bs m a.ready tk.D index tk.V fs hi ∙ a.room;
-          known = a.known;
-          ground = ground_looping t w.tree w.params way w.scope x (taken_from u) tk.worth a.ground;
-          facts = facts_more way w.tree m.facts _ a.facts;
-          ruled = a.ruled;
-          scoped = scoped_bound forms.keeps way w.tree w.scope (for_in_form demanded x domain body) b refl told a.scoped
-              (λ all. taken_scoped forms.keeps w domain w.scope.next _ _ f.0);
-          cut = cut_plain forms.keeps way w.tree w.scope (for_in_form demanded x domain body) b w.params m.facts fs refl told (λ l h. inr h) a.cut
-              (worth_no_partition _ tk.worth);
-          upto = upto_before way w.tree _ _ (block_grows w.tree lw.scope body) end;
-        }) within end _ st.1.1.1.1.1 in
-        let narrow = narrow_then _ _ _ inner.done.narrower (round_narrow way w.params bs m a.ready tk.D index tk.V fs hi) in
+        let upto = upto_before way w.tree _ _ (block_grows w.tree lw.scope body) end in
         unchanged g t k forms.keeps way w.tree _ _ m _ a.ready a.scoped a.cut
-        (both g t k over.is
-        (subst (λ p. Marked g t k (stacked m (tk.D ∷ [])) (over_points w x u body p) (stacked m [])) (sym tk.is_ptr)
-        (points.counted g t k way w.params bs m a.ready a.params hi tk.D tk.V tk.ptr tk.domain w.line (block_code lw body)
-        (into g t k inner.done.is (narrow_into t.params inner.done.next hm narrow (fewer_facts fs inner.done.next.facts inner.done.facts)) (sym (narrow_long _ _ narrow))))))
+        (loop_marked g t k slots have forms way w m a hi x demanded domain body f.0 f.1 whole told within upto
+        (λ tk q s. block_marked lw (round g t k slots have forms way w m a hi x u tk) body f.1 (asks_second _ _ _ whole)
+        (asked_inside g t k slots have forms way w m a hi x demanded domain body f.0 f.1 whole told within upto tk) within end q s) pc st)
     form_marked w m (do_form body) f whole a told within up pc st = unchanged g t k forms.keeps way w.tree _ _ m _ a.ready a.scoped a.cut
         (closed_block g t k forms.keeps way w.tree _ _ m _ (block_marked w m body f whole a within (upto_inner way w.tree w.scope _ up) pc st).done)
     form_marked w m (fill_form r fields e) f whole a told within up pc st = fill_marked g t k slots have forms way w m a r fields e f.0 whole told f.1 f.2 f.3 pc st

@@ -103,7 +103,7 @@ piece_there vs st (value.Pending z) q s p c n o l written parts h = absurd h
 abbrev knowing_all : List Fact → Mark → Mark
 knowing_all fs m = record m { facts = fs ++ m.facts }
 
-each_onto : (P : Fact → Type 0) (fs ks : List Fact) → Each P fs → Each P ks → Each P (fs ++ ks)
+pub each_onto : (P : Fact → Type 0) (fs ks : List Fact) → Each P fs → Each P ks → Each P (fs ++ ks)
 each_onto P [] ks h q = q
 each_onto P (f ∷ fs) ks h q = (h.0, each_onto P fs ks h.1 q)
 
@@ -155,7 +155,7 @@ module _ (g : Program) (t : TaskCode) (k line : ℕ) (m : Mark) where
   any_coloured x _ us vs _ (numeric_pointer n) (are_more _ _ _ st (is_number _ z h) b) = tt
 
   -- a child lies within the region in a slot, of which the partition is
-  child_within : (x : World) (vs : List Value) (p s sp : ℕ) (c : Colour) (o : Origin) (r : RegionValue) → IsPlainOrigin o → p < m.fixed → IsUnder m.fixed c →
+  pub child_within : (x : World) (vs : List Value) (p s sp : ℕ) (c : Colour) (o : Origin) (r : RegionValue) → IsPlainOrigin o → p < m.fixed → IsUnder m.fixed c →
       Holds (parted p s) vs → Are x m.slots vs → slice_get m.slots s ≡ Some (region (Some sp) o) → IsRegion (around x m vs) None unknown r → IsChild vs p c r →
       Is (around x m vs) (region (Some sp) (child_at p c o)) (value.Region r)
   child_within x vs p s sp c o r plain low under parts slots e i h =
@@ -256,7 +256,7 @@ module _ (g : Program) (t : TaskCode) (k line : ℕ) (m : Mark) where
       subst (ComesFrom (around x m vs) o) (same_Some q r at) (region_held x (take m.fixed vs) (Some sp) o q plain f).origin
 
   -- a region in a slot that stays is known as the one there
-  region_known : (x : World) (vs : List Value) (s sp : ℕ) (o : Origin) (v : Value) → IsPlainOrigin o → s < m.fixed → slice_get vs s ≡ Some v →
+  pub region_known : (x : World) (vs : List Value) (s sp : ℕ) (o : Origin) (v : Value) → IsPlainOrigin o → s < m.fixed → slice_get vs s ≡ Some v →
       Is x (region (Some sp) o) v → Is (around x m vs) (region (Some sp) (held_at s o)) v
   region_known x vs s sp o _ plain low at (is_number _ z f) = absurd f
   region_known x vs s sp o _ plain low at (is_region _ _ r f) =
@@ -281,7 +281,7 @@ module _ (g : Program) (t : TaskCode) (k line : ℕ) (m : Mark) where
   as_cut x d o _ (is_number _ z f) h = absurd f
 
   -- what is known of a partition in a slot, by the region in another of which it is
-  cut_known : (x : World) (vs : List Value) (p s sp : ℕ) (d : Bool) (o : Origin) (v : Value) → IsPlainOrigin o → s < m.fixed → Holds (parted p s) vs →
+  pub cut_known : (x : World) (vs : List Value) (p s sp : ℕ) (d : Bool) (o : Origin) (v : Value) → IsPlainOrigin o → s < m.fixed → Holds (parted p s) vs →
       Are x m.slots vs → slice_get m.slots s ≡ Some (region (Some sp) o) → slice_get vs p ≡ Some v → Is x (partition None d) v →
       Is (around x m vs) (cut_from None d (held_at s o)) v
   cut_known x vs p s sp d o v plain low parts slots e at i =

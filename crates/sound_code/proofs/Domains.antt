@@ -111,7 +111,7 @@ child_space _ t (a_region_type k sp args r) = refl
 -- ---- what is asked of a domain
 
 -- a name that has an index space names no region, and takes no part
-space_whole : (w : Where) (e : Expression) → IsSpace (typed w e) → is_whole_domain true w e ≡ true → is_whole_expression true w e ≡ true
+pub space_whole : (w : Where) (e : Expression) → IsSpace (typed w e) → is_whole_domain true w e ≡ true → is_whole_expression true w e ≡ true
 space_whole w e s h = ⊎_elim (λ r. absurd (of_region_name e r s)) (λ h. ⊎_elim (λ p. absurd (of_part e p s)) (λ q. q) (or_cases (takes_part true w e) _ h))
     (or_cases (names_region w e) _ h)
   where

@@ -352,7 +352,7 @@ module _ (g : Program) (t : TaskCode) (k slots : ℕ) (forms : Forms) (way : Way
           ),
     )
 
-    call_opens : Opens g t before place (task_code w.tree callee) shapes
+    pub call_opens : Opens g t before place (task_code w.tree callee) shapes
     call_opens = of asked.hands
       where
         of : Hands forms t way w.tree → Opens g t before place (task_code w.tree callee) shapes

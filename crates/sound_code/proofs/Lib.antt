@@ -75,6 +75,16 @@ pub mod Behind
 pub mod Bindings
 pub mod Copies
 pub mod Stops
+pub mod Alike
+pub mod LikeCalls
+pub mod RoundFrames
+pub mod KeptMarks
+pub mod KeptStores
+pub mod LaunchedNames
+pub mod KeptCode
+pub mod RoundArguments
+pub mod Launching
+pub mod LoopCode
 pub mod Blocks
 pub mod Tasks
 pub mod Entries
@@ -91,6 +101,7 @@ pub mod WholeExample
 pub mod CutsExample
 pub mod SiblingsExample
 pub mod PiecesExample
+pub mod LaunchedExample
 pub mod LeftWith
 pub mod MiddleParts
 pub mod MiddleExample

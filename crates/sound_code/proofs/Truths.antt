@@ -1,5 +1,5 @@
 -- What follows of two truths, from what follows of each.
-use Rattle.std.proofs.Common.{◌≡◌, Bool, true, false, ◌&&◌, ◌||◌, refl, ap, ◌∙◌}
+use Rattle.std.proofs.Common.{◌≡◌, Bool, true, false, ◌&&◌, ◌||◌, refl, sym, ap, ◌∙◌}
 use Rattle.std.proofs.lemmas.Bool.{and_parts}
 
 pub both_true : (a b : Bool) → a ≡ true → b ≡ true → (a && b) ≡ true
@@ -16,3 +16,9 @@ pub or_maps : (a b c d : Bool) → (a ≡ true → b ≡ true) → (c ≡ true �
 or_maps true b c d f g h = ap (λ y. y || d) (f refl)
 or_maps false true c d f g h = refl
 or_maps false false c d f g h = g h
+
+-- two tests that follow from each other
+pub same_truths : (a b : Bool) → (a ≡ true → b ≡ true) → (b ≡ true → a ≡ true) → a ≡ b
+same_truths true b f h = sym (f refl)
+same_truths false true f h = h refl
+same_truths false false f h = refl

@@ -10,4 +10,5 @@ pub mod WholeExample
 pub mod CutsExample
 pub mod SiblingsExample
 pub mod PiecesExample
+pub mod LaunchedExample
 pub mod MiddleExample

@@ -6,6 +6,7 @@
 ghost use Rattle.sound_code.specs.CutsExample.{CutsExampleHolds};
 ghost use Rattle.sound_code.specs.Example.{CodeExampleHolds};
 ghost use Rattle.sound_code.specs.HandingExample.{HandedIsSound, HandsExampleHolds};
+ghost use Rattle.sound_code.specs.LaunchedExample.{LaunchedExampleHolds};
 ghost use Rattle.sound_code.specs.MiddleExample.{MiddleExampleHolds};
 ghost use Rattle.sound_code.specs.PiecesExample.{PiecesExampleHolds};
 ghost use Rattle.sound_code.specs.RulesExample.{HistogramIsSound, RulesExampleHolds};
@@ -119,6 +120,13 @@ pub fn siblings_example_holds()
 #[tactic(auto, using(crate::proofs::PiecesExample::pieces_example_holds))]
 pub fn pieces_example_holds()
     ensures { PiecesExampleHolds }
+{}
+
+/// An accepted program with loops that are index launches, whose calls hand over parts, a region, a partition and a pointer that have
+/// names, and colours, of which each premise holds.
+#[tactic(auto, using(crate::proofs::LaunchedExample::launched_example_holds))]
+pub fn launched_example_holds()
+    ensures { LaunchedExampleHolds }
 {}
 
 /// In the middle of the code of an accepted program, within a loop, with two parts held, of which one is a reduction's, a state

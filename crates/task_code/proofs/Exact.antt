@@ -2,14 +2,15 @@
 use Rattle.std.proofs.Common.{rules}
 use Rattle.std.specs.Prelude.{◌≡◌, Bool, true}
 use mathlib.Core.Path.{refl, subst}
-use Rattle.std.specs.Cmp.Lexicographic.{pointwise_decides}
+use Rattle.std.specs.Cmp.Lexicographic.{pointwise, pointwise_decides}
+use Rattle.index_launch.specs.contracts.points.LaunchArgPartialEq.TheImpl.{eq-value as arg_eq}
 use Rattle.task_code.specs.declared.instr.Instr.{Instr}
 use Rattle.task_code.specs.declared.instr.Instr.TheVariants as i
 use Rattle.task_code.specs.contracts.instr.InstrPartialEq.TheImpl.{eq-value as instr_eq}
-use Rattle.task_code.proofs.Parts.{part_exact, width_exact, op_exact}
+use Rattle.task_code.proofs.Parts.{arg_exact, part_exact, width_exact, op_exact}
 use Rattle.task_code.proofs.Plain.{same_num, same_load, same_store, same_drop, same_eq, same_ne, same_lt, same_le, same_gt, same_ge, same_ptr_eq, same_ptr_ne, same_not, same_jump, same_jump_if_not, same_and_jump, same_or_jump, same_point, same_is_null, same_at, same_space, same_colors, same_new_root, same_equal, same_by_field, same_image, same_preimage, same_meet, same_join, same_minus, same_child, same_turn, same_next_number, same_next_point, same_call, same_assert, same_return, same_return_value}
 use Rattle.task_code.proofs.Wide.{same_add, same_sub, same_mul, same_div, same_rem, same_neg, same_wrap, same_fill}
-use Rattle.task_code.proofs.Lists.{same_cast, same_cast_ptr, same_move, same_read, same_write, same_print, same_reduce}
+use Rattle.task_code.proofs.Lists.{same_cast, same_cast_ptr, same_launch, same_move, same_read, same_write, same_print, same_reduce}
 
 instr_same : (x other : Instr) → instr_eq.it x other ≡ true → x ≡ other
 instr_same (i.Num a) other h = same_num a other h
@@ -61,6 +62,7 @@ instr_same i.Turn other h = same_turn other h
 instr_same (i.NextNumber a b c d) other h = same_next_number a b c d other h
 instr_same (i.NextPoint a b c d e) other h = same_next_point a b c d e other h
 instr_same (i.Call a b) other h = same_call a b other h
+instr_same (i.Launch a b c d) other h = same_launch a b c d other h
 instr_same (i.Print a) other h = same_print a other h
 instr_same i.Assert other h = same_assert other h
 instr_same i.Return other h = same_return other h
@@ -116,6 +118,9 @@ instr_self i.Turn = refl
 instr_self (i.NextNumber a b c d) = search (rules)
 instr_self (i.NextPoint a b c d e) = search (rules)
 instr_self (i.Call a b) = search (rules)
+instr_self (i.Launch a b c d) =
+    let same : pointwise arg_eq.it d d ≡ true = (pointwise_decides arg_exact d d).1 refl in
+    search (rules)
 instr_self (i.Print a) = search (rules, pointwise_decides, part_exact)
 instr_self i.Assert = refl
 instr_self i.Return = refl

@@ -5,6 +5,7 @@ use mathlib.Core.Path.{refl, sym}
 use mathlib.Core.Bool.{true≢false, ◌&&◌}
 use Rattle.std.specs.Cmp.{first_so, second_so}
 use Rattle.std.specs.Cmp.Lexicographic.{pointwise, pointwise_decides}
+use Rattle.index_launch.specs.declared.points.LaunchArg.{LaunchArg}
 use Rattle.lane_kernels.specs.declared.numbers.Width.{Width}
 use Rattle.lane_kernels.specs.declared.numbers.Op.{Op}
 use Rattle.lane_kernels.specs.contracts.numbers.WidthPartialEq.TheImpl.{eq-value as width_eq}
@@ -13,7 +14,7 @@ use Rattle.task_code.specs.declared.instr.PrintPart.{PrintPart}
 use Rattle.task_code.specs.declared.instr.Instr.{Instr}
 use Rattle.task_code.specs.declared.instr.Instr.TheVariants as i
 use Rattle.task_code.specs.contracts.instr.InstrPartialEq.TheImpl.{eq-value as instr_eq}
-use Rattle.task_code.proofs.Parts.{part_exact, width_exact, op_exact}
+use Rattle.task_code.proofs.Parts.{arg_exact, part_exact, width_exact, op_exact}
 
 pub same_cast : (a : List ℕ) (other : Instr) → instr_eq.it (i.Cast a) other ≡ true → i.Cast a ≡ other
 same_cast a (i.Cast v) h = search (rules, pointwise_decides)
@@ -47,3 +48,7 @@ same_reduce a b c d (i.Reduce v w x y) h =
     let operator : c ≡ x = (op_exact c x).0 (first_so (op_eq.it c x) (width_eq.it d y) behind_field) in
     search (rules, pointwise_decides, width_exact)
 same_reduce a b c d other h = absurd (true≢false (sym h))
+
+pub same_launch : (a b c : ℕ) (d : List LaunchArg) (other : Instr) → instr_eq.it (i.Launch a b c d) other ≡ true → i.Launch a b c d ≡ other
+same_launch a b c d (i.Launch v w x y) h = search (rules, pointwise_decides, arg_exact)
+same_launch a b c d other h = absurd (true≢false (sym h))

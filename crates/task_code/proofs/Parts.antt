@@ -1,7 +1,9 @@
--- Widths, operators and printed parts compare equal exactly where they are the same.
+-- Widths, operators, printed parts and arguments of launches compare equal exactly where they are the same.
 use Rattle.std.proofs.Common.{rules}
 use Rattle.std.specs.Prelude.{◌≡◌, Bool, true, false, ℕ, ℤ, List}
 use Rattle.std.specs.Cmp.Lexicographic.{pointwise_decides}
+use Rattle.index_launch.specs.declared.points.LaunchArg.{LaunchArg}
+use Rattle.index_launch.specs.contracts.points.LaunchArgPartialEq.TheImpl.{eq-value as arg_eq}
 use Rattle.lane_kernels.specs.declared.numbers.Width.{Width}
 use Rattle.lane_kernels.specs.contracts.numbers.WidthPartialEq.TheImpl.{eq-value as width_eq}
 use Rattle.lane_kernels.specs.declared.numbers.Op.{Op}
@@ -17,3 +19,6 @@ op_exact x y = search (rules)
 
 pub part_exact : (x y : PrintPart) → (part_eq.it x y ≡ true → x ≡ y) × (x ≡ y → part_eq.it x y ≡ true)
 part_exact x y = search (rules, pointwise_decides)
+
+pub arg_exact : (x y : LaunchArg) → (arg_eq.it x y ≡ true → x ≡ y) × (x ≡ y → arg_eq.it x y ≡ true)
+arg_exact x y = search (rules)

@@ -1,5 +1,6 @@
 //! Instructions.
 
+use index_launch::LaunchArg;
 use lane_kernels::{Op, Width};
 use plain_values::Sequence;
 
@@ -114,6 +115,10 @@ pub enum Instr {
     NextPoint(u32, u32, u32, bool, u32),
     /// Pops so many arguments, takes a turn, and has a task called; the pending child is pushed.
     Call(u32, u8),
+    /// Has a task called once for each point of the index space in a slot, in rising order, each time with these
+    /// arguments at that point, up to the first fault. Each round of the loop takes a turn, and so does its call; the
+    /// line is that of the call's faults.
+    Launch(u32, u32, u32, Sequence<LaunchArg>),
     /// Pops a number for each `Number` part, the last one first, and writes the parts in order.
     Print(Sequence<PrintPart>),
     /// Pops; 0 is a fault.

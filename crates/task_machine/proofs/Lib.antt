@@ -4,3 +4,4 @@ pub mod Rounds
 pub mod Taking
 pub mod Tasks
 pub mod Operating
+pub mod Launching

@@ -6,6 +6,7 @@ mod fills;
 mod frequent;
 mod heads;
 mod jumps;
+mod launches;
 mod numbers;
 mod operations;
 mod partitioning;

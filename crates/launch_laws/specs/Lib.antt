@@ -1,0 +1,3 @@
+pub mod Laws
+pub mod Launched
+pub mod Example
