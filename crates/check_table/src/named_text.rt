@@ -4,13 +4,14 @@ ghost use Rattle.std.specs.Prelude.{◌≡◌, ◌++◌, [], ◌∷◌, IfOk, On
 
 use regent_run::regent_run;
 use run_io::{MemorySink, MemorySource};
+use run_journal::{JournalFault, journal_read, journal_text};
 use std::alloc::{AllocError, Global};
 use std::sync::Wait;
 use std::thread::Threads;
 use worker_gate::OpenGate;
 
 /// The most bytes that a call writes to each sink.
-const ROOM: usize = 200;
+const ROOM: usize = 2_000;
 
 /// A text, its name, and the words of the call that it is given to.
 #[derive(Drop)]
@@ -35,10 +36,31 @@ fn sink(alloc: Global) -> Result<MemorySink, AllocError> {
 }
 
 /// The status, the output and the error output, each in its place.
-fn told(alloc: Global, status: u8, out: &[u8], err: &[u8]) -> Result<String, AllocError> {
+fn told(alloc: Global, status: u8, out: &[u8], err: &str) -> Result<String, AllocError> {
     let out = str::from_utf8(out).unwrap_or("no text");
-    let err = str::from_utf8(err).unwrap_or("no text");
     format!(in alloc; "{status} {out}{err}")
+}
+
+/// What a call wrote to the error output, where each trace there is read back; else the word of one that isn't.
+fn checked(alloc: Global, is_traced: bool, err: &[u8]) -> Result<&str, AllocError> {
+    let err = str::from_utf8(err).unwrap_or("no text");
+    let (trace, _) = err.split_once("fault: ").unwrap_or((err, ""));
+    if is_traced && !is_read_back(alloc, trace)? {
+        return Ok("no journal");
+    }
+    Ok(err)
+}
+
+/// Whether a trace is read as a journal whose text it is, where workers made the run.
+fn is_read_back(alloc: Global, trace: &str) -> Result<bool, AllocError> {
+    match journal_read(alloc, trace.as_bytes()) {
+        Ok(entries) => {
+            let text = journal_text(alloc, entries.as_slice())?;
+            Ok(text.as_slice() == trace.as_bytes())
+        }
+        Err(JournalFault::BadLine { .. }) => Ok(trace == "in order\n"),
+        Err(JournalFault::Memory(failed)) => Err(failed),
+    }
 }
 
 impl NamedText {
@@ -102,7 +124,13 @@ impl NamedText {
         let mut out = sink(alloc)?;
         let mut err = sink(alloc)?;
         let status = regent_run(rt, alloc, words, &mut source, &mut out, &mut err, &OpenGate);
-        told(alloc, status, out.bytes(), err.bytes())
+        let is_traced = status <= 1 && words.iter().any(|word| word.as_str() == "--trace");
+        told(
+            alloc,
+            status,
+            out.bytes(),
+            checked(alloc, is_traced, err.bytes())?,
+        )
     }
 
     /// Whether the words run a program, and name neither workers nor a trace, which differs by workers.

@@ -3,6 +3,7 @@
 ghost use Rattle.std.specs.Prelude.{◌<◌};
 
 use crate::runs::lines;
+use index_launch::LaunchArg;
 use index_spaces::Ispace;
 use lane_kernels::{FieldKind, Mode, Width};
 use plain_values::{Sequence, Shared};
@@ -20,14 +21,14 @@ const ROOT: RootId = RootId(0);
 
 const NODE: Node = Node(0);
 
-/// Code of one task.
-fn code(alloc: Global, slots: u32, body: Sequence<Line>) -> Result<Code, AllocError> {
+/// Code of one task, with five slots.
+fn code(alloc: Global, params: u8, body: Sequence<Line>) -> Result<Code, AllocError> {
     let mut tasks = Sequence::new(alloc);
     tasks.push(TaskCode {
-        params: 0,
+        params,
         result: false,
         needs: Sequence::new(alloc),
-        slots,
+        slots: 5,
         body,
     })?;
     Ok(Code {
@@ -127,7 +128,7 @@ fn left_by<const N: usize>(alloc: Global, turns: u64, body: [Instr; N]) -> Resul
     requires { N < 1000 }
 {
     let body = lines(alloc, body)?;
-    let code = code(alloc, 5, body)?;
+    let code = code(alloc, 0, body)?;
     let parts = parts(alloc)?;
     let frame = frame(alloc, turns)?;
     run(alloc, &code, frame, parts)
@@ -194,10 +195,65 @@ fn turns_run_out(rt: HostRuntime) -> Result<(), Fail> {
     Ok(())
 }
 
+/// A task of two parameters that launches itself over the space, with the part of each colour and a number. The
+/// partition has the first colour alone.
+fn launching(alloc: Global) -> Result<Code, AllocError> {
+    let mut args = Sequence::new(alloc);
+    args.push(LaunchArg::Child(1))?;
+    args.push(LaunchArg::Number(6))?;
+    let body = lines(alloc, [Instr::Launch(0, 2, 9, args)])?;
+    code(alloc, 2, body)
+}
+
+/// What it leaves with so many turns.
+fn launched_with(alloc: Global, turns: u64) -> Result<After, AllocError> {
+    let code = launching(alloc)?;
+    let parts = Sequence::new(alloc);
+    let frame = frame(alloc, turns)?;
+    run(alloc, &code, frame, parts)
+}
+
+/// Whether the frame keeps this fault for later.
+fn keeps(after: &After, fault: Fault) -> bool {
+    match &after.frame {
+        Some(frame) => frame.later == Some(fault),
+        None => false,
+    }
+}
+
+/// Whether so many calls were launched, and then this fault is kept; or it comes at once, where there are none.
+fn is_launched(after: &After, calls: usize, fault: Fault) -> bool {
+    match &after.ends {
+        Yield::Calls(made) => {
+            let all_take = made.as_slice().iter().all(|call| {
+                matches!(call.args.as_slice(), [Value::Region(_), Value::Number(6)])
+            });
+            all_take && made.len() == calls && keeps(after, fault)
+        }
+        Yield::Fault(told) => calls == 0 && *told == fault,
+        _ => false,
+    }
+}
+
+#[test]
+fn calls_are_launched_up_to_a_fault(rt: HostRuntime) -> Result<(), Fail> {
+    for (turns, calls, kind, line) in [
+        (0, 0, FaultKind::Turns, 1),
+        (1, 0, FaultKind::Turns, 9),
+        (2, 1, FaultKind::Turns, 1),
+        (3, 1, FaultKind::BadColor, 9),
+    ] {
+        let after = launched_with(rt.alloc(), turns)?;
+        let fault = Fault { kind, line };
+        assert!(rt; is_launched(&after, calls, fault), "{turns} turns");
+    }
+    Ok(())
+}
+
 /// A task that stores a number.
 fn storing(alloc: Global) -> Result<Shared<Code>, AllocError> {
     let body = lines(alloc, [Instr::Num(3), Instr::Store(4), Instr::Return])?;
-    let code = code(alloc, 5, body)?;
+    let code = code(alloc, 0, body)?;
     Shared::new(alloc, code)
 }
 
