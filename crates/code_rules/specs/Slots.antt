@@ -2,9 +2,10 @@
 --
 -- Parameters have the first slots, in order. Each further place of a name in scope has three slots:
 -- the variable; a loop's counter; and a loop's limit or domain, or the region of a pointer whose type
--- is that of a child. Behind those of all names in scope stand the regions of children that are in
--- use, by their depth; the first of these slots is the third one of the name that is bound next, so that
--- the region of a new pointer stands there already.
+-- is that of a child. Behind those of all names in scope stand spare slots, counted from 0. There wait
+-- the regions of children that are in use, by their depth; a number that is filled in or folded, in the
+-- first; and what a launch passes on at each colour, by its place in the call. The first spare slot is the
+-- third one of the name that is bound next, so that the region of a new pointer stands there already.
 use Rattle.std.specs.Prelude.{ℕ, List, map, Bool, true, false, cond, Some, None, length, ◌*◌, ◌+◌, ◌-◌}
 use Rattle.regent_tree.specs.declared.facts.Term.{Term}
 use Rattle.regent_tree.specs.declared.facts.Term.TheVariants as term
@@ -36,7 +37,7 @@ counter w place = slot w place + 1
 abbrev pub beside : Where → ℕ → ℕ
 beside w place = slot w place + 2
 
--- the region of a child that is in use at a depth
+-- the spare slot with this number
 abbrev pub spare : Where → ℕ → ℕ
 spare w d = slot w (length w.scope.names) + 2 + d
 
