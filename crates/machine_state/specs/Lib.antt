@@ -1,8 +1,8 @@
 pub mod Aims
-pub mod Handed
 pub mod Casts
 pub mod Columns
 pub mod Fills
 pub mod Holding
+pub mod Operands
 pub mod Rounds
 pub mod Takings

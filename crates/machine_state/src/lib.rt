@@ -10,8 +10,9 @@ mod columns;
 mod copies;
 mod divisions;
 mod fills;
-mod handed;
 mod holdings;
+mod jumps;
+mod operands;
 mod pointers;
 mod points;
 mod slots;
@@ -28,8 +29,9 @@ pub use divisions::{
     Division, divide_by_both, divide_by_either, divide_by_field, divide_by_image,
     divide_by_preimage, divide_equally, divide_without, lies_in,
 };
-pub use handed::{are_held, arguments};
 pub use holdings::{Holdings, Lack};
+pub use jumps::{branch, may_jump, place_of_jump};
+pub use operands::{operand, operation, pointer_at};
 pub use pointers::{Pointer, are_same, held_point, region_in};
 pub use points::{Upcoming, loop_value, next_of};
 pub use slots::Slots;

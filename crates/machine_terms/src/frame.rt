@@ -7,6 +7,9 @@ use regent_tree::Fault;
 use region_tree::{Needs, Part, RootId};
 use task_code::Code;
 
+/// The deepest that a task instance may stand and still call.
+pub const DEEPEST: u8 = 64;
+
 /// A task instance: its task, the place of its next instruction, its values, the turns that are left
 /// to it, its depth (that of the entry task is 1), what it needs, the roots that it made, how many
 /// children it called, and the fault that follows a launch of which the calls before were issued.

@@ -10,7 +10,7 @@ mod ran;
 mod stack;
 mod value;
 
-pub use frame::{Before, Frame};
+pub use frame::{Before, DEEPEST, Frame};
 pub use order::{Contents, Ended, Instance, Resumed, Root};
 pub use outcome::{After, CallOut, Made, Yield};
 pub use ran::Ran;

@@ -4,4 +4,3 @@ pub mod Rounds
 pub mod Taking
 pub mod Tasks
 pub mod Operating
-pub mod Launching

@@ -10,14 +10,11 @@ ghost use Rattle.machine_terms.specs.Machine.{stops};
 
 use crate::running::{Act, Running};
 use machine_state::{count_numbers, take_values, text_of};
-use machine_terms::{CallOut, Value, Yield};
+use machine_terms::{CallOut, DEEPEST, Value, Yield};
 use plain_values::Sequence;
 use regent_tree::FaultKind;
 use std::alloc::AllocError;
 use task_code::{Code, PrintPart};
-
-/// The deepest that a task instance may stand and still call.
-const DEEPEST: u8 = 64;
 
 impl Running {
     /// Yields a call, which costs a turn; its pending child is pushed.

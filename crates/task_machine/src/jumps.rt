@@ -2,43 +2,16 @@
 
 ghost use Rattle.std.specs.Prelude.{◌≡◌, ℤ, pos, IfOk, length, ◌<◌, ◌<ℤ◌, ◌^◌, ◌-◌};
 ghost use Rattle.task_machine.specs.Acts.{Does};
-ghost use Rattle.machine_terms.specs.Jumps.{and_jump, jump, jump_if_not, leave, may_jump, next_number};
-ghost use Rattle.machine_terms.specs.Jumps.{next_point, or_jump, round, turn, turns_back};
+ghost use Rattle.machine_terms.specs.Jumps.{and_jump, jump, jump_if_not, leave, next_number};
+ghost use Rattle.machine_terms.specs.Jumps.{next_point, or_jump, round, turn};
 ghost use Rattle.machine_terms.specs.Machine.{on_turn};
 
 use crate::running::{Act, Running};
-use machine_state::{Upcoming, loop_value, next_of};
+use machine_state::{Upcoming, loop_value, may_jump, next_of};
 use machine_terms::Value;
 use regent_tree::FaultKind;
 use std::alloc::AllocError;
-use task_code::{Instr, Line};
-
-/// Whether a jump may go back to this instruction: each round then takes a turn, or leaves for a later
-/// place.
-#[inline(always)]
-fn turns_back(from: u32, instr: &Instr) -> bool
-    ensures { result ≡ turns_back from instr.now }
-{
-    match instr {
-        Instr::Turn => true,
-        Instr::NextNumber(_, _, _, exit) | Instr::NextPoint(_, _, _, _, exit) => from < *exit,
-        _ => false,
-    }
-}
-
-/// Whether a jump may go from a place to another.
-#[inline(always)]
-pub(crate) fn may_jump(body: &[Line], from: u32, to: u32) -> bool
-    ensures { result ≡ may_jump body.now from to }
-{
-    if from < to {
-        return true;
-    }
-    match body.get(to as usize) {
-        Some(line) => turns_back(from, &line.instr),
-        None => false,
-    }
-}
+use task_code::Line;
 
 impl Running {
     /// Goes to a place, where a jump may go there.

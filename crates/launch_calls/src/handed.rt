@@ -1,16 +1,28 @@
-//! What a launch hands over to its calls.
+//! What a launch goes over, and what it hands over to its calls.
 
-ghost use Rattle.std.specs.Prelude.{◌≡◌, IfOk, slice_get};
+ghost use Rattle.std.specs.Prelude.{◌≡◌, IfNone, IfOk, IfSome, Some, slice_get};
+ghost use Rattle.launch_calls.specs.Rounds.{IsNoSpace};
+ghost use Rattle.machine_terms.specs.declared.value.Value.TheVariants.{Space};
 ghost use Rattle.std.specs.List.{list_all};
 ghost use Rattle.machine_terms.specs.Launches.{argument, arguments, child_in, is_held};
 ghost use Rattle.machine_terms.specs.Regions.{partition_in};
 
-use crate::colours::partition_in;
-use crate::slots::Slots;
 use index_launch::{LaunchArg, PointArg};
+use machine_state::{Slots, partition_in};
 use machine_terms::Value;
 use plain_values::Sequence;
 use std::alloc::{AllocError, Global};
+
+/// How many points the index space in a slot has.
+pub fn size_in(slots: &Slots, slot: u32) -> Option<u32>
+    ensures some { IfSome result (λ n. slice_get slots.now slot ≡ Some (Space n)) }
+    ensures none { IfNone result (IsNoSpace (slice_get slots.now slot)) }
+{
+    match slots.as_slice().get(slot as usize) {
+        Some(Value::Space(space)) => Some(space.volume()),
+        _ => None,
+    }
+}
 
 /// Whether a slot holds what an argument hands over.
 fn is_held(slots: &Slots, arg: LaunchArg) -> bool
@@ -69,7 +81,7 @@ fn child_in(slots: &Slots, slot: u32, colour: u32) -> Result<Option<Value>, Allo
 }
 
 /// The values of all arguments at a colour; None where one has none.
-pub fn arguments(
+pub(crate) fn arguments(
     alloc: Global,
     slots: &Slots,
     args: &[PointArg],

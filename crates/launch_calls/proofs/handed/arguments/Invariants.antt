@@ -1,7 +1,7 @@
 use Rattle.std.proofs.Common.{◌≡◌, drop}
 use Rattle.machine_terms.specs.Launches.{arguments}
-use Rattle.machine_state.specs.Handed.{behind}
-use Rattle.machine_state.proofs.handed.arguments.Given as goal
+use Rattle.launch_calls.specs.Rounds.{behind}
+use Rattle.launch_calls.proofs.handed.arguments.Given as goal
 
 abbrev pub invariant-loop-arg : goal.invariant-loop-arg
 invariant-loop-arg l = behind l.values (arguments l.slots (drop l.arg-index l.args)) ≡ arguments l.slots l.args

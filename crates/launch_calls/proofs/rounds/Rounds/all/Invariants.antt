@@ -1,7 +1,7 @@
 use Rattle.std.proofs.Common.{◌≡◌, drop, map}
 use Rattle.machine_terms.specs.Launches.{launched}
-use Rattle.task_machine.specs.Rounds.{behind_calls, in_common}
-use Rattle.task_machine.proofs.launches.Rounds.all.Given as goal
+use Rattle.launch_calls.specs.Rounds.{behind_calls, in_common}
+use Rattle.launch_calls.proofs.rounds.Rounds.all.Given as goal
 
 abbrev pub invariant-loop-args : goal.invariant-loop-args
 invariant-loop-args l =

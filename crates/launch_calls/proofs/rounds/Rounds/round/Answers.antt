@@ -1,7 +1,7 @@
 use Rattle.std.proofs.Common.{rules, ◌-◌}
-use Rattle.task_machine.specs.Rounds.{in_common}
-use Rattle.task_machine.proofs.Launching.{round_calls}
-use Rattle.task_machine.proofs.launches.Rounds.round.Goals as goal
+use Rattle.launch_calls.specs.Rounds.{in_common}
+use Rattle.launch_calls.proofs.Launching.{round_calls}
+use Rattle.launch_calls.proofs.rounds.Rounds.round.Goals as goal
 
 pub returns : goal.returns
 returns c more =
