@@ -26,10 +26,9 @@ fn param(alloc: Global, byte: u8, term: TypeTerm) -> Result<Param, AllocError> {
 
 /// The field space s with the 32-bit field f and the truth g.
 fn space(alloc: Global) -> Result<FieldSpace, AllocError> {
-    let mut fields = Sequence::new(alloc);
-    let number = TypeTerm::Number(NumberTerm::Int32);
-    fields.push(param(alloc, b'f', number)?)?;
-    fields.push(param(alloc, b'g', TypeTerm::Truth)?)?;
+    let number = param(alloc, b'f', TypeTerm::Number(NumberTerm::Int32))?;
+    let truth = param(alloc, b'g', TypeTerm::Truth)?;
+    let fields = Sequence::from_vec(vec![in alloc; number, truth]?);
     Ok(FieldSpace {
         name: name(alloc, b's')?,
         params: Sequence::new(alloc),
@@ -37,123 +36,156 @@ fn space(alloc: Global) -> Result<FieldSpace, AllocError> {
     })
 }
 
-/// `where reads(r.g), reduces +(r)`
-fn clauses(alloc: Global) -> Result<Sequence<Clause>, AllocError> {
-    let mut clauses = Sequence::new(alloc);
-    let mut only = Sequence::new(alloc);
-    only.push(name(alloc, b'g')?)?;
-    for (grant, fields) in [(Grant::Reads, Some(only)), (Grant::Reduces(Op::Sum), None)] {
-        let mut grants = Sequence::new(alloc);
-        grants.push(grant)?;
-        let mut places = Sequence::new(alloc);
-        places.push(Place {
-            region: name(alloc, b'r')?,
-            fields,
-        })?;
-        clauses.push(Clause::Grants { grants, places })?;
-    }
-    Ok(clauses)
+/// A clause that grants these fields of r, or all.
+fn clause(
+    alloc: Global,
+    grant: Grant,
+    fields: Option<Sequence<Name>>,
+) -> Result<Clause, AllocError> {
+    let region = name(alloc, b'r')?;
+    let places = Sequence::from_vec(vec![in alloc; Place { region, fields }]?);
+    Ok(Clause::Grants {
+        grants: Sequence::from_slice(alloc, &[grant])?,
+        places,
+    })
 }
 
-/// The task t of the number x and the region r.
-fn task(alloc: Global) -> Result<Task, AllocError> {
-    let mut params = Sequence::new(alloc);
-    let number = TypeTerm::Number(NumberTerm::Int64);
-    params.push(param(alloc, b'x', number)?)?;
-    let region = TypeTerm::Region {
-        kind: Kind::Ptr,
-        space: SpaceUse {
-            name: name(alloc, b's')?,
-            args: Sequence::new(alloc),
-        },
+/// `where reads(r.g), reduces +(r)`
+fn clauses(alloc: Global) -> Result<Sequence<Clause>, AllocError> {
+    let truth = name(alloc, b'g')?;
+    let only = Sequence::from_vec(vec![in alloc; truth]?);
+    let reads = clause(alloc, Grant::Reads, Some(only))?;
+    let reduces = clause(alloc, Grant::Reduces(Op::Sum), None)?;
+    Ok(Sequence::from_vec(vec![in alloc; reads, reduces]?))
+}
+
+/// The number x and the region r.
+fn params(alloc: Global) -> Result<Sequence<Param>, AllocError> {
+    let number = param(alloc, b'x', TypeTerm::Number(NumberTerm::Int64))?;
+    let space = SpaceUse {
+        name: name(alloc, b's')?,
+        args: Sequence::new(alloc),
     };
-    params.push(param(alloc, b'r', region)?)?;
+    let kind = Kind::Ptr;
+    let region = param(alloc, b'r', TypeTerm::Region { kind, space })?;
+    Ok(Sequence::from_vec(vec![in alloc; number, region]?))
+}
+
+/// The task t of them.
+fn task(alloc: Global) -> Result<Task, AllocError> {
+    let name = name(alloc, b't')?;
+    let params = params(alloc)?;
+    let clauses = clauses(alloc)?;
     Ok(Task {
-        name: name(alloc, b't')?,
+        name,
         params,
         result: None,
-        clauses: clauses(alloc)?,
+        clauses,
         body: Vec::new(alloc),
     })
 }
 
 fn program(alloc: Global) -> Result<Program, AllocError> {
-    let mut items = Vec::new(alloc);
-    for what in [ItemKind::Task(task(alloc)?), ItemKind::Space(space(alloc)?)] {
-        items.push(Item { line: 1, what })?;
+    let task = Item {
+        line: 1,
+        what: ItemKind::Task(task(alloc)?),
+    };
+    let space = Item {
+        line: 1,
+        what: ItemKind::Space(space(alloc)?),
+    };
+    Ok(Program {
+        items: vec![in alloc; task, space]?,
+    })
+}
+
+fn need(field: u8, mode: Mode) -> NeedCode {
+    NeedCode {
+        param: 1,
+        field,
+        mode,
     }
-    Ok(Program { items })
+}
+
+/// Whether a task of the program has its needs.
+fn has_needs(alloc: Global, program: &Program, task: &Task) -> Result<bool, AllocError> {
+    let tables = Tables::new(alloc, program)?;
+    let needs = declared_needs(alloc, &tables, task)?;
+    let expected = [
+        need(1, Mode::Read),
+        need(0, Mode::Reduce(Op::Sum)),
+        need(1, Mode::Reduce(Op::Sum)),
+    ];
+    Ok(needs.as_slice() == expected.as_slice())
 }
 
 fn needs_are_told(alloc: Global) -> Result<bool, AllocError> {
+    let task = task(alloc)?;
     let program = program(alloc)?;
-    let tables = Tables::new(alloc, &program)?;
-    let needs = declared_needs(alloc, &tables, &task(alloc)?)?;
-    let mut expected = Sequence::new(alloc);
-    for (field, mode) in [
-        (1, Mode::Read),
-        (0, Mode::Reduce(Op::Sum)),
-        (1, Mode::Reduce(Op::Sum)),
-    ] {
-        expected.push(NeedCode {
-            param: 1,
-            field,
-            mode,
-        })?;
-    }
-    Ok(needs == expected)
+    has_needs(alloc, &program, &task)
+}
+
+fn is_field(field: &FieldCode, byte: u8, kind: FieldKind) -> bool {
+    field.name.as_slice() == [byte].as_slice() && field.kind == kind
+}
+
+/// Whether this is the code of the field space s.
+fn is_space(code: &SpaceCode) -> bool {
+    let has_fields = match code.fields.as_slice() {
+        [number, truth] => {
+            is_field(number, b'f', FieldKind::Int32) && is_field(truth, b'g', FieldKind::Truth)
+        }
+        _ => false,
+    };
+    has_fields && code.name.as_slice() == b"s".as_slice()
 }
 
 fn spaces_are_told(alloc: Global) -> Result<bool, AllocError> {
-    let mut fields = Sequence::new(alloc);
-    for (byte, kind) in [(b'f', FieldKind::Int32), (b'g', FieldKind::Truth)] {
-        fields.push(FieldCode {
-            name: name(alloc, byte)?,
-            kind,
-        })?;
-    }
-    let mut expected = Sequence::new(alloc);
-    expected.push(SpaceCode {
-        name: name(alloc, b's')?,
-        fields,
-    })?;
-    Ok(spaces_of_program(alloc, &program(alloc)?)? == expected)
+    let program = program(alloc)?;
+    let spaces = spaces_of_program(alloc, &program)?;
+    Ok(match spaces.as_slice() {
+        [space] => is_space(space),
+        _ => false,
+    })
 }
 
 fn parts_are_told(alloc: Global) -> Result<bool, AllocError> {
-    let mut expected = Sequence::new(alloc);
-    for part in [
-        PrintPart::Text(Sequence::from_slice(alloc, b"5%")?),
-        PrintPart::Number,
-        PrintPart::Number,
-        PrintPart::Text(Sequence::from_slice(alloc, b"!")?),
-    ] {
-        expected.push(part)?;
-    }
-    Ok(parts_of(alloc, b"5%%%lld%d!")? == expected)
+    let parts = parts_of(alloc, b"5%%%lld%d!")?;
+    Ok(match parts.as_slice() {
+        [
+            PrintPart::Text(first),
+            PrintPart::Number,
+            PrintPart::Number,
+            PrintPart::Text(last),
+        ] => first.as_slice() == b"5%".as_slice() && last.as_slice() == b"!".as_slice(),
+        _ => false,
+    })
+}
+
+fn line(instr: Instr) -> Line {
+    Line { instr, line: 1 }
 }
 
 fn slots_are_counted(alloc: Global) -> Result<bool, AllocError> {
-    let mut regions = Sequence::new(alloc);
-    regions.push(3)?;
-    regions.push(1)?;
-    let mut body = Vec::new(alloc);
-    for instr in [
-        Instr::Load(2),
-        Instr::Read(regions, 9),
-        Instr::NextNumber(5, 7, 6, 90),
-        Instr::Jump(80),
-    ] {
-        body.push(Line { instr, line: 1 })?;
-    }
+    let regions = Sequence::from_slice(alloc, &[3, 1])?;
+    let body = vec![in alloc;
+        line(Instr::Load(2)),
+        line(Instr::Read(regions, 9)),
+        line(Instr::NextNumber(5, 7, 6, 90)),
+        line(Instr::Jump(80)),
+    ]?;
     Ok(used_slots(0, &body)? == 8 && used_slots(9, &body)? == 9)
 }
 
 #[test]
 fn tables_are_made_with_memory_at_hand(rt: HostRuntime) -> Result<(), Fail> {
-    assert!(rt; needs_are_told(rt.alloc())?);
-    assert!(rt; spaces_are_told(rt.alloc())?);
-    assert!(rt; parts_are_told(rt.alloc())?);
-    assert!(rt; slots_are_counted(rt.alloc())?);
+    let alloc = rt.alloc();
+    let told = [
+        needs_are_told(alloc)?,
+        spaces_are_told(alloc)?,
+        parts_are_told(alloc)?,
+        slots_are_counted(alloc)?,
+    ];
+    assert_eq!(rt; told, [true; 4]);
     Ok(())
 }

@@ -42,21 +42,15 @@ fn task(
 /// A field of 64 bits.
 fn fields(alloc: Global) -> Result<Sequence<FieldCode>, AllocError> {
     let name = Sequence::from_slice(alloc, b"x")?;
-    let mut fields = Sequence::new(alloc);
-    fields.push(FieldCode {
-        name,
-        kind: FieldKind::Int64,
-    })?;
-    Ok(fields)
+    let kind = FieldKind::Int64;
+    Ok(Sequence::from_vec(vec![in alloc; FieldCode { name, kind }]?))
 }
 
 /// One field space, of a field of 64 bits.
 fn spaces(alloc: Global) -> Result<Sequence<SpaceCode>, AllocError> {
     let fields = fields(alloc)?;
     let name = Sequence::from_slice(alloc, b"f")?;
-    let mut spaces = Sequence::new(alloc);
-    spaces.push(SpaceCode { name, fields })?;
-    Ok(spaces)
+    Ok(Sequence::from_vec(vec![in alloc; SpaceCode { name, fields }]?))
 }
 
 /// The code of these tasks.
@@ -90,11 +84,9 @@ fn outcome_of(
 
 /// Pops a number and prints it on a line of its own.
 fn print(alloc: Global) -> Result<Instr, AllocError> {
-    let end = Sequence::from_slice(alloc, b"\n")?;
-    let mut parts = Sequence::new(alloc);
-    parts.push(PrintPart::Number)?;
-    parts.push(PrintPart::Text(end))?;
-    Ok(Instr::Print(parts))
+    let end = PrintPart::Text(Sequence::from_slice(alloc, b"\n")?);
+    let parts = vec![in alloc; PrintPart::Number, end]?;
+    Ok(Instr::Print(Sequence::from_vec(parts)))
 }
 
 /// The region of the first slot.
@@ -111,6 +103,8 @@ const WRITING: NeedCode = NeedCode {
 /// A task that makes a root of three points and calls the next task with it; then it prints what stands
 /// at point 1.
 fn caller(alloc: Global) -> Result<TaskCode, AllocError> {
+    let read = first(alloc)?;
+    let number = print(alloc)?;
     let body = lines(
         alloc,
         [
@@ -123,8 +117,8 @@ fn caller(alloc: Global) -> Result<TaskCode, AllocError> {
             Instr::Drop,
             Instr::Num(1),
             Instr::At(0),
-            Instr::Read(first(alloc)?, 0),
-            print(alloc)?,
+            Instr::Read(read, 0),
+            number,
             Instr::Return,
         ],
     )?;
@@ -133,13 +127,14 @@ fn caller(alloc: Global) -> Result<TaskCode, AllocError> {
 
 /// A task that writes 7 at point 1 of the region that it is given.
 fn writer(alloc: Global) -> Result<TaskCode, AllocError> {
+    let written = first(alloc)?;
     let body = lines(
         alloc,
         [
             Instr::Num(7),
             Instr::Num(1),
             Instr::At(0),
-            Instr::Write(first(alloc)?, 0, Width::W64),
+            Instr::Write(written, 0, Width::W64),
             Instr::Return,
         ],
     )?;
@@ -149,9 +144,13 @@ fn writer(alloc: Global) -> Result<TaskCode, AllocError> {
 /// A task without a statement.
 fn only_task(alloc: Global) -> Result<Sequence<TaskCode>, AllocError> {
     let body = lines(alloc, [Instr::Return])?;
-    let mut tasks = Sequence::new(alloc);
-    tasks.push(task(alloc, 0, &[], body)?)?;
-    Ok(tasks)
+    let task = task(alloc, 0, &[], body)?;
+    Ok(Sequence::from_vec(vec![in alloc; task]?))
+}
+
+/// Whether an outcome has this text, and ended so.
+fn is_outcome(outcome: &Outcome, text: &[u8], ending: &Ending) -> bool {
+    outcome.text.as_slice() == text && outcome.ending == *ending
 }
 
 /// A task without a statement is finished, with no text and no roots.
@@ -159,8 +158,8 @@ fn only_task(alloc: Global) -> Result<Sequence<TaskCode>, AllocError> {
 fn empty_task(rt: HostRuntime) -> Result<(), Fail> {
     let alloc = rt.alloc();
     let outcome = outcome_of(alloc, only_task(alloc)?, &[])?;
-    assert_eq!(rt; outcome.text.len(), 0);
-    assert_eq!(rt; outcome.ending, Ending::Finished(Sequence::new(alloc)));
+    let ending = Ending::Finished(Sequence::new(alloc));
+    assert!(rt; is_outcome(&outcome, b"", &ending));
     Ok(())
 }
 
@@ -169,41 +168,35 @@ fn empty_task(rt: HostRuntime) -> Result<(), Fail> {
 fn void_job(rt: HostRuntime) -> Result<(), Fail> {
     let alloc = rt.alloc();
     let outcome = outcome_of(alloc, only_task(alloc)?, &[4])?;
-    assert_eq!(rt; outcome.text.len(), 0);
-    assert_eq!(rt; outcome.ending, Ending::Broken);
+    assert!(rt; is_outcome(&outcome, b"", &Ending::Broken));
     Ok(())
 }
 
 /// The caller and the writer.
 fn called(alloc: Global) -> Result<Sequence<TaskCode>, AllocError> {
-    let mut tasks = Sequence::new(alloc);
-    tasks.push(caller(alloc)?)?;
-    tasks.push(writer(alloc)?)?;
-    Ok(tasks)
+    let caller = caller(alloc)?;
+    let writer = writer(alloc)?;
+    Ok(Sequence::from_vec(vec![in alloc; caller, writer]?))
 }
 
 /// A root of three points, of which one was written.
 fn written_root(alloc: Global) -> Result<Sequence<RootImage>, AllocError> {
     let column = Sequence::from_slice(alloc, &[0, 7, 0])?;
-    let mut fields = Sequence::new(alloc);
-    fields.push(column)?;
-    let mut roots = Sequence::new(alloc);
-    roots.push(RootImage {
+    let root = RootImage {
         space: 0,
         count: 3,
-        fields,
-    })?;
-    Ok(roots)
+        fields: Sequence::from_vec(vec![in alloc; column]?),
+    };
+    Ok(Sequence::from_vec(vec![in alloc; root]?))
 }
 
 /// What a called task wrote stands in the root behind the call.
 #[test]
 fn called_task_writes(rt: HostRuntime) -> Result<(), Fail> {
     let alloc = rt.alloc();
+    let ending = Ending::Finished(written_root(alloc)?);
     let outcome = outcome_of(alloc, called(alloc)?, &[])?;
-    let roots = written_root(alloc)?;
-    assert!(rt; *outcome.text.as_slice() == *b"7\n".as_slice());
-    assert_eq!(rt; outcome.ending, Ending::Finished(roots));
+    assert!(rt; is_outcome(&outcome, b"7\n", &ending));
     Ok(())
 }
 
@@ -215,13 +208,14 @@ const FOLDING: NeedCode = NeedCode {
 
 /// A task that adds 4 at point 1 of the region that it is given.
 fn adder(alloc: Global) -> Result<TaskCode, AllocError> {
+    let folded = first(alloc)?;
     let body = lines(
         alloc,
         [
             Instr::Num(4),
             Instr::Num(1),
             Instr::At(0),
-            Instr::Reduce(first(alloc)?, 0, Op::Sum, Width::W64),
+            Instr::Reduce(folded, 0, Op::Sum, Width::W64),
             Instr::Return,
         ],
     )?;
@@ -268,12 +262,10 @@ fn touching_caller(alloc: Global) -> Result<TaskCode, AllocError> {
 
 /// A caller and what it calls.
 fn touching(alloc: Global) -> Result<Sequence<TaskCode>, AllocError> {
-    let mut tasks = Sequence::new(alloc);
-    tasks.push(touching_caller(alloc)?)?;
-    for _ in 0..2 {
-        tasks.push(adder(alloc)?)?;
-    }
-    Ok(tasks)
+    let caller = touching_caller(alloc)?;
+    let whole = adder(alloc)?;
+    let point = adder(alloc)?;
+    Ok(Sequence::from_vec(vec![in alloc; caller, whole, point]?))
 }
 
 /// What is written goes back before a call, and what is folded behind it, over a whole root and over a

@@ -14,7 +14,7 @@ use std::alloc::{AllocError, Global};
 use std::test::Fail;
 use task_code::{Code, Instr, Line, PrintPart, TaskCode};
 use task_machine::{
-    After, Before, Frame, PartitionValue, RegionValue, Stack, Value, Yield, run, run_segment,
+    After, Before, Frame, PartitionValue, Ran, RegionValue, Stack, Value, Yield, run, run_segment,
 };
 
 const ROOT: RootId = RootId(0);
@@ -23,16 +23,15 @@ const NODE: Node = Node(0);
 
 /// Code of one task, with five slots.
 fn code(alloc: Global, params: u8, body: Sequence<Line>) -> Result<Code, AllocError> {
-    let mut tasks = Sequence::new(alloc);
-    tasks.push(TaskCode {
+    let task = TaskCode {
         params,
         result: false,
         needs: Sequence::new(alloc),
         slots: 5,
         body,
-    })?;
+    };
     Ok(Code {
-        tasks,
+        tasks: Sequence::from_vec(vec![in alloc; task]?),
         spaces: Sequence::new(alloc),
         start: 0,
     })
@@ -49,8 +48,8 @@ fn region(alloc: Global) -> Result<RegionValue, AllocError> {
 
 /// A partition of the region in one.
 fn partition(alloc: Global) -> Result<Value, AllocError> {
-    let mut children = Sequence::new(alloc);
-    children.push(region(alloc)?)?;
+    let child = region(alloc)?;
+    let children = Sequence::from_vec(vec![in alloc; child]?);
     Ok(Value::Partition(PartitionValue {
         root: ROOT,
         disjoint: true,
@@ -58,23 +57,26 @@ fn partition(alloc: Global) -> Result<Value, AllocError> {
     }))
 }
 
-/// Slots with the region and the partition.
-fn regions(alloc: Global) -> Result<Sequence<Value>, AllocError> {
-    let mut slots = Sequence::new(alloc);
-    slots.push(Value::Region(region(alloc)?))?;
-    slots.push(partition(alloc)?)?;
-    Ok(slots)
+/// A space of three points.
+fn space() -> Result<Value, AllocError> {
+    match Ispace::line(3) {
+        Ok(space) => Ok(Value::Space(space)),
+        Err(_) => Err(AllocError),
+    }
 }
 
 /// Slots with a value of each kind, and then the number 0.
 fn slots(alloc: Global) -> Result<Sequence<Value>, AllocError> {
-    let mut slots = regions(alloc)?;
-    if let Ok(space) = Ispace::line(3) {
-        slots.push(Value::Space(space))?;
-    }
-    slots.push(Value::Pending(7))?;
-    slots.push(Value::Number(0))?;
-    Ok(slots)
+    let space = space()?;
+    let region = Value::Region(region(alloc)?);
+    let partition = partition(alloc)?;
+    Ok(Sequence::from_vec(vec![in alloc;
+        region,
+        partition,
+        space,
+        Value::Pending(7),
+        Value::Number(0),
+    ]?))
 }
 
 /// A frame that writes field 0 of the root.
@@ -85,6 +87,7 @@ fn frame(alloc: Global, turns: u64) -> Result<Frame, AllocError> {
         field: 0,
         mode: Mode::Write,
     };
+    let items = Sequence::from_slice(alloc, &[need])?;
     Ok(Frame {
         task: 0,
         pc: 0,
@@ -92,9 +95,7 @@ fn frame(alloc: Global, turns: u64) -> Result<Frame, AllocError> {
         stack: Stack::new(alloc),
         turns,
         depth: 1,
-        needs: Needs {
-            items: Sequence::from_slice(alloc, &[need])?,
-        },
+        needs: Needs { items },
         own: Sequence::new(alloc),
         children: 0,
         later: None,
@@ -103,24 +104,34 @@ fn frame(alloc: Global, turns: u64) -> Result<Frame, AllocError> {
 
 /// The part for the field, with 10 at each point.
 fn part(alloc: Global) -> Result<Part, AllocError> {
-    let mut pieces = Sequence::new(alloc);
-    pieces.push(Piece {
+    let values = Sequence::from_slice(alloc, &[10, 10, 10, 10, 10])?;
+    let piece = Piece {
         points: PointSet::range(alloc, 0, 5)?,
         mode: Mode::Write,
-        values: Sequence::from_slice(alloc, &[10, 10, 10, 10, 10])?,
-    })?;
+        values,
+    };
     Ok(Part {
         root: ROOT,
         field: 0,
         kind: FieldKind::Int64,
-        pieces,
+        pieces: Sequence::from_vec(vec![in alloc; piece]?),
     })
 }
 
 fn parts(alloc: Global) -> Result<Sequence<Part>, AllocError> {
-    let mut parts = Sequence::new(alloc);
-    parts.push(part(alloc)?)?;
-    Ok(parts)
+    let part = part(alloc)?;
+    Ok(Sequence::from_vec(vec![in alloc; part]?))
+}
+
+/// What code leaves with so many turns, on these parts.
+fn left(
+    alloc: Global,
+    code: &Code,
+    turns: u64,
+    parts: Sequence<Part>,
+) -> Result<After, AllocError> {
+    let frame = frame(alloc, turns)?;
+    run(alloc, code, frame, parts)
 }
 
 /// What a body leaves, on the part.
@@ -130,17 +141,20 @@ fn left_by<const N: usize>(alloc: Global, turns: u64, body: [Instr; N]) -> Resul
     let body = lines(alloc, body)?;
     let code = code(alloc, 0, body)?;
     let parts = parts(alloc)?;
-    let frame = frame(alloc, turns)?;
-    run(alloc, &code, frame, parts)
+    left(alloc, &code, turns, parts)
 }
 
 /// The print of a number with an exclamation mark.
 fn exclaimed(alloc: Global) -> Result<Instr, AllocError> {
-    let end = Sequence::from_slice(alloc, b"!\n")?;
-    let mut parts = Sequence::new(alloc);
-    parts.push(PrintPart::Number)?;
-    parts.push(PrintPart::Text(end))?;
-    Ok(Instr::Print(parts))
+    let end = PrintPart::Text(Sequence::from_slice(alloc, b"!\n")?);
+    let parts = vec![in alloc; PrintPart::Number, end]?;
+    Ok(Instr::Print(Sequence::from_vec(parts)))
+}
+
+/// Whether a segment has printed this text, and ended without a value and without a frame.
+fn has_printed(after: &After, text: &[u8]) -> bool {
+    let ended = matches!(after.ends, Yield::End(None));
+    ended && after.frame.is_none() && after.text.as_slice() == text
 }
 
 #[test]
@@ -158,9 +172,7 @@ fn numbers_are_computed_and_printed(rt: HostRuntime) -> Result<(), Fail> {
             Instr::Return,
         ],
     )?;
-    assert!(rt; *after.text.as_slice() == *b"-3!\n".as_slice());
-    assert!(rt; matches!(after.ends, Yield::End(None)));
-    assert!(rt; after.frame.is_none());
+    assert!(rt; has_printed(&after, b"-3!\n"));
     Ok(())
 }
 
@@ -174,12 +186,20 @@ fn values_of_each_kind_are_loaded(rt: HostRuntime) -> Result<(), Fail> {
     Ok(())
 }
 
+/// Whether a segment awaits operation 7 at its first instruction.
+fn awaits(after: &After) -> bool {
+    let stays = match &after.frame {
+        Some(frame) => frame.pc == 0,
+        None => false,
+    };
+    stays && matches!(after.ends, Yield::Await(7))
+}
+
 #[test]
 fn a_pending_value_is_awaited(rt: HostRuntime) -> Result<(), Fail> {
     let alloc = rt.alloc();
-    let awaits = left_by(alloc, 0, [Instr::Load(3)])?;
-    assert!(rt; matches!(awaits.ends, Yield::Await(7)));
-    assert_eq!(rt; awaits.frame.map(|frame| frame.pc), Some(0));
+    let after = left_by(alloc, 0, [Instr::Load(3)])?;
+    assert!(rt; awaits(&after));
     Ok(())
 }
 
@@ -198,9 +218,7 @@ fn turns_run_out(rt: HostRuntime) -> Result<(), Fail> {
 /// A task of two parameters that launches itself over the space, with the part of each colour and a number. The
 /// partition has the first colour alone.
 fn launching(alloc: Global) -> Result<Code, AllocError> {
-    let mut args = Sequence::new(alloc);
-    args.push(LaunchArg::Child(1))?;
-    args.push(LaunchArg::Number(6))?;
+    let args = Sequence::from_slice(alloc, &[LaunchArg::Child(1), LaunchArg::Number(6)])?;
     let body = lines(alloc, [Instr::Launch(0, 2, 9, args)])?;
     code(alloc, 2, body)
 }
@@ -208,9 +226,7 @@ fn launching(alloc: Global) -> Result<Code, AllocError> {
 /// What it leaves with so many turns.
 fn launched_with(alloc: Global, turns: u64) -> Result<After, AllocError> {
     let code = launching(alloc)?;
-    let parts = Sequence::new(alloc);
-    let frame = frame(alloc, turns)?;
-    run(alloc, &code, frame, parts)
+    left(alloc, &code, turns, Sequence::new(alloc))
 }
 
 /// Whether the frame keeps this fault for later.
@@ -258,25 +274,25 @@ fn storing(alloc: Global) -> Result<Shared<Code>, AllocError> {
 }
 
 fn before(alloc: Global) -> Result<Shared<Before>, AllocError> {
+    let parts = parts(alloc)?;
     let code = storing(alloc)?;
     let frame = frame(alloc, 0)?;
-    let parts = parts(alloc)?;
     Shared::new(alloc, Before { code, frame, parts })
+}
+
+/// Whether a run has ended, and keeps the frame and the part that it ran from.
+fn keeps_before(ran: &Ran) -> bool {
+    let before = ran.before().get();
+    let kept = matches!(before.frame.slots.as_slice().get(4), Some(Value::Number(0)));
+    kept && before.parts.len() == 1 && matches!(ran.after().ends, Yield::End(None))
 }
 
 #[test]
 fn a_segment_leaves_what_it_ran_from(rt: HostRuntime) -> Result<(), Fail> {
     let alloc = rt.alloc();
     let ran = run_segment(alloc, before(alloc)?)?;
-    assert!(rt; matches!(ran.after().ends, Yield::End(None)));
-    assert_eq!(rt; ran.before().get().parts.len(), 1);
-    assert!(rt;
-        matches!(
-            ran.before().get().frame.slots.as_slice().get(4),
-            Some(Value::Number(0))
-        )
-    );
+    let kept = keeps_before(&ran);
     let after = ran.into_after();
-    assert_eq!(rt; after.parts.len(), 1);
+    assert_eq!(rt; (kept, after.parts.len()), (true, 1));
     Ok(())
 }

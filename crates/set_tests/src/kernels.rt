@@ -68,33 +68,47 @@ fn all<T: Copy>(alloc: Global, item: T, count: usize) -> Result<Vec<T>, AllocErr
     Vec::from_elem(alloc, item, count)
 }
 
+/// Whether a list is equal to one of the same length with one number at each place.
+fn are_all(alloc: Global, numbers: &[i64], number: i64) -> Result<bool, AllocError> {
+    let expected = all(alloc, number, numbers.len())?;
+    Ok(equal(numbers, &expected))
+}
+
+/// Whether sums of 2 with numbers that are all 3 come out right.
+fn sums_come_out(alloc: Global, from: &[i64]) -> Result<bool, AllocError> {
+    let mut sums = all(alloc, 2, from.len())?;
+    fold(Op::Sum, Width::W32, &mut sums, from);
+    Ok(are_all(alloc, &sums, 5)? && equal(&sums, from) == from.is_empty())
+}
+
+/// Whether products of 2 with numbers that are all 3 come out right behind a mask that is set.
+fn products_come_out(alloc: Global, from: &[i64]) -> Result<bool, AllocError> {
+    let mask = all(alloc, true, from.len())?;
+    let mut products = all(alloc, 2, from.len())?;
+    fold_masked(Op::Product, Width::W64, &mut products, from, &mask);
+    are_all(alloc, &products, 6)
+}
+
+/// Whether numbers are copied over 2 behind a mask that is set, and are not where it isn't.
+fn copies_come_out(alloc: Global, from: &[i64], is_set: bool) -> Result<bool, AllocError> {
+    let mask = all(alloc, is_set, from.len())?;
+    let mut copied = all(alloc, 2, from.len())?;
+    copy_masked(&mut copied, from, &mask);
+    if is_set {
+        return Ok(equal(&copied, from));
+    }
+    are_all(alloc, &copied, 2)
+}
+
 /// Whether folds and copies of 3 into 2 come out right at each place of lists of a length.
 fn numbers_come_out(alloc: Global, length: usize) -> Result<bool, AllocError> {
     let from = all(alloc, 3, length)?;
-    let mut sums = all(alloc, 2, length)?;
-    fold(Op::Sum, Width::W32, &mut sums, &from);
-    let mut products = all(alloc, 2, length)?;
-    fold_masked(
-        Op::Product,
-        Width::W64,
-        &mut products,
-        &from,
-        &all(alloc, true, length)?,
-    );
-    let mut copied = all(alloc, 2, length)?;
-    copy_masked(&mut copied, &from, &all(alloc, true, length)?);
-    let mut left = all(alloc, 2, length)?;
-    copy_masked(&mut left, &from, &all(alloc, false, length)?);
-    Ok(
-        equal(&sums, &all(alloc, 5, length)?)
-            && equal(&products, &all(alloc, 6, length)?)
-            && equal(&copied, &from)
-            && equal(&left, &all(alloc, 2, length)?)
-            && equal(&sums, &from) == (length == 0),
-    )
+    let folds = sums_come_out(alloc, &from)? && products_come_out(alloc, &from)?;
+    Ok(folds && copies_come_out(alloc, &from, true)? && copies_come_out(alloc, &from, false)?)
 }
 
-/// Whether a list of a length is unlike itself with another last number.
+/// Whether a list of a length is unlike itself with another last number, and words share a bit only with another last
+/// word.
 fn last_is_seen(alloc: Global, length: usize) -> Result<bool, AllocError> {
     let numbers = all(alloc, 4, length)?;
     let mut other = all(alloc, 4, length)?;
@@ -103,10 +117,22 @@ fn last_is_seen(alloc: Global, length: usize) -> Result<bool, AllocError> {
     }
     let bits = all(alloc, 1, length)?;
     let mut word = all(alloc, 6, length)?;
+    let apart = !any_common(&word, &bits);
     if let Some(last) = word.last_mut() {
         *last = 3;
     }
-    Ok(equal(&numbers, &other) == (length == 0) && any_common(&bits, &word) == (length > 0))
+    let common = any_common(&bits, &word) == (length > 0);
+    Ok(equal(&numbers, &other) == (length == 0) && apart && common)
+}
+
+/// Whether words are all the same one.
+fn words_are(words: &[u64], expected: u64) -> bool {
+    for word in words {
+        if *word != expected {
+            return false;
+        }
+    }
+    true
 }
 
 /// Whether the words of 6 and 3 come out right at each place of lists of a length.
@@ -118,12 +144,7 @@ fn words_come_out(alloc: Global, length: usize) -> Result<bool, AllocError> {
     or_words(&mut either, &from);
     let mut rest = all(alloc, 6, length)?;
     minus_words(&mut rest, &from);
-    Ok(
-        both == all(alloc, 2, length)?
-            && either == all(alloc, 7, length)?
-            && rest == all(alloc, 4, length)?
-            && !any_common(&all(alloc, 6, length)?, &all(alloc, 1, length)?),
-    )
+    Ok(words_are(&both, 2) && words_are(&either, 7) && words_are(&rest, 4))
 }
 
 #[test]

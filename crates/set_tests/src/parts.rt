@@ -1,5 +1,7 @@
 //! The operations against tables by hand, and at their largest sizes.
 
+ghost use Rattle.std.specs.Prelude.{◌≡◌, length};
+
 use partitions::{both, by_field, either_of, equal, image, preimage, without};
 use point_sets::{POINT_LIMIT, PointSet};
 use std::alloc::{AllocError, Global};
@@ -97,6 +99,24 @@ fn fields(rt: HostRuntime) -> Result<(), Fail> {
     Ok(())
 }
 
+/// Whether the images of sets within a parent, both told by their points, have the points of lists.
+fn images_come_out(
+    alloc: Global,
+    parent: &[u32],
+    sets: &[&[u32]],
+    region: &PointSet,
+    values: &[i64],
+    pointers: bool,
+    want: &[&[u32]],
+) -> Result<bool, AllocError>
+    requires { length values.now ≡ length region.now }
+{
+    let parent = set_of(alloc, parent)?;
+    let sets = sets_of(alloc, sets)?;
+    let images = image(alloc, &parent, sets.as_slice(), region, values, pointers);
+    Ok(made(images, want)? == (true, false))
+}
+
 #[test]
 fn images(rt: HostRuntime) -> Result<(), Fail> {
     let alloc = rt.alloc();
@@ -147,15 +167,39 @@ fn images(rt: HostRuntime) -> Result<(), Fail> {
         ),
     ];
     for (parent, sets, region, values, pointers, want) in rows {
-        let parent = set_of(alloc, parent)?;
-        let sets = sets_of(alloc, sets)?;
         let region = set_of(alloc, region)?;
         assert_eq!(rt; region.len() as usize, values.len());
-        let images = image(alloc, &parent, sets.as_slice(), &region, values, pointers);
-        let images = made(images, want)?;
-        assert_eq!(rt; images, (true, false), "{values:?} {pointers}");
+        let images = images_come_out(alloc, parent, sets, &region, values, pointers, want)?;
+        assert!(rt; images, "{values:?} {pointers}");
     }
     Ok(())
+}
+
+/// Whether the preimages of sets within a parent, both told by their points, have the points of lists, where two flags
+/// tell that the values are pointers and that the sets share no points.
+fn preimages_come_out(
+    alloc: Global,
+    parent: &[u32],
+    sets: &[&[u32]],
+    region: &PointSet,
+    values: &[i64],
+    flags: (bool, bool),
+    want: &[&[u32]],
+) -> Result<bool, AllocError>
+    requires { length values.now ≡ length region.now }
+{
+    let parent = set_of(alloc, parent)?;
+    let sets = sets_of(alloc, sets)?;
+    let preimages = preimage(
+        alloc,
+        &parent,
+        sets.as_slice(),
+        region,
+        values,
+        flags.0,
+        flags.1,
+    );
+    Ok(made(preimages, want)? == (true, flags.1))
 }
 
 #[test]
@@ -205,24 +249,33 @@ fn preimages(rt: HostRuntime) -> Result<(), Fail> {
             &[&[0]],
         ),
     ];
+    let region = set_of(alloc, &[0, 1, 2])?;
     for (parent, sets, values, pointers, flag, want) in rows {
-        let parent = set_of(alloc, parent)?;
-        let sets = sets_of(alloc, sets)?;
-        let region = set_of(alloc, &[0, 1, 2])?;
         assert_eq!(rt; region.len() as usize, values.len());
-        let preimages = preimage(
-            alloc,
-            &parent,
-            sets.as_slice(),
-            &region,
-            values,
-            pointers,
-            flag,
-        );
-        let preimages = made(preimages, want)?;
-        assert_eq!(rt; preimages, (true, flag), "{values:?} {pointers}");
+        let flags = (pointers, flag);
+        let preimages = preimages_come_out(alloc, parent, sets, &region, values, flags, want)?;
+        assert!(rt; preimages, "{values:?} {pointers}");
     }
     Ok(())
+}
+
+/// Whether the operations on sets, colour by colour, have the points of lists, with each flag.
+fn operations_come_out(
+    alloc: Global,
+    p: &[PointSet],
+    q: &[PointSet],
+    meet: &[&[u32]],
+    union: &[&[u32]],
+    rest: &[&[u32]],
+) -> Result<bool, AllocError> {
+    let united = made(either_of(alloc, p, q), union)?;
+    let mut are_well = united == (true, false);
+    for flag in [false, true] {
+        let met = made(both(alloc, p, q, flag), meet)?;
+        let left = made(without(alloc, p, q, flag), rest)?;
+        are_well = are_well && [met, left] == [(true, flag), (true, flag)];
+    }
+    Ok(are_well)
 }
 
 #[test]
@@ -257,13 +310,10 @@ fn set_operations(rt: HostRuntime) -> Result<(), Fail> {
         let p = sets_of(alloc, left)?;
         let q = sets_of(alloc, right)?;
         let (p, q) = (p.as_slice(), q.as_slice());
-        for flag in [false, true] {
-            let met = made(both(alloc, p, q, flag), meet)?;
-            let left = made(without(alloc, p, q, flag), rest)?;
-            assert_eq!(rt; (met, left), ((true, flag), (true, flag)), "{meet:?}");
-        }
-        let united = made(either_of(alloc, p, q), union)?;
-        assert_eq!(rt; united, (true, false), "{union:?}");
+        assert!(rt;
+            operations_come_out(alloc, p, q, meet, union, rest)?,
+            "{meet:?} {union:?}"
+        );
     }
     Ok(())
 }
@@ -287,11 +337,16 @@ fn total(sets: &[PointSet]) -> u64 {
     sum
 }
 
-#[test]
-fn largest_equal(rt: HostRuntime) -> Result<(), Fail> {
-    let alloc = rt.alloc();
+/// All points in 65536 equal sets.
+fn all_parts(alloc: Global) -> Result<Vec<PointSet>, AllocError> {
     let region = PointSet::range(alloc, 0, POINT_LIMIT)?;
     let (sets, _) = equal(alloc, &region, 65_536)?;
+    Ok(sets)
+}
+
+#[test]
+fn largest_equal(rt: HostRuntime) -> Result<(), Fail> {
+    let sets = all_parts(rt.alloc())?;
     assert_eq!(rt; (sets.len(), total(sets.as_slice())), (65_536, 4_194_304));
     if let Some(set) = sets.get(65_535) {
         assert_eq!(rt; (set.len(), set.at(0)), (64, Some(4_194_240)));
@@ -325,8 +380,7 @@ fn sizes(made: Result<(Vec<PointSet>, bool), AllocError>) -> Result<(usize, u64)
 #[test]
 fn largest_set_operations(rt: HostRuntime) -> Result<(), Fail> {
     let alloc = rt.alloc();
-    let region = PointSet::range(alloc, 0, POINT_LIMIT)?;
-    let (sets, _) = equal(alloc, &region, 65_536)?;
+    let sets = all_parts(alloc)?;
     let parts = sets.as_slice();
     let same = sizes(both(alloc, parts, parts, true))?;
     let all = sizes(either_of(alloc, parts, parts))?;
@@ -338,38 +392,52 @@ fn largest_set_operations(rt: HostRuntime) -> Result<(), Fail> {
     Ok(())
 }
 
+/// The images of a thousand equal parts of a region within it.
+fn images_of_parts(
+    alloc: Global,
+    region: &PointSet,
+    values: &[i64],
+) -> Result<Vec<PointSet>, AllocError>
+    requires { length values.now ≡ length region.now }
+{
+    let (parts, _) = equal(alloc, region, 1_000)?;
+    let (images, _) = image(alloc, region, parts.as_slice(), region, values, false)?;
+    Ok(images)
+}
+
+/// The preimages of sets within a region.
+fn preimages_of(
+    alloc: Global,
+    sets: &[PointSet],
+    region: &PointSet,
+    values: &[i64],
+) -> Result<Vec<PointSet>, AllocError>
+    requires { length values.now ≡ length region.now }
+{
+    let (back, _) = preimage(alloc, region, sets, region, values, false, false)?;
+    Ok(back)
+}
+
+/// Whether images and their preimages are as many as told, and the second ones begin and end as told.
+fn are_thousands(images: &[PointSet], back: &[PointSet]) -> bool {
+    let counts = [images.len(), back.len()] == [1_000, 1_000];
+    let (Some(image), Some(part)) = (images.get(1), back.get(1)) else {
+        return false;
+    };
+    let points = [image.at(0), image.at(1), part.at(0), part.at(999)];
+    counts
+        && [total(images), total(back)] == [1_000_000, 1_000_000]
+        && points == [Some(7_000), Some(7_007), Some(1_000), Some(1_999)]
+}
+
 #[test]
 fn large_images(rt: HostRuntime) -> Result<(), Fail> {
     let alloc = rt.alloc();
     let region = PointSet::range(alloc, 0, 1_000_000)?;
     let values = spread(alloc, 1_000_000, 7, 1_000_000)?;
     assert_eq!(rt; region.len() as usize, values.len());
-    let (parts, _) = equal(alloc, &region, 1_000)?;
-    let (images, _) = image(
-        alloc,
-        &region,
-        parts.as_slice(),
-        &region,
-        values.as_slice(),
-        false,
-    )?;
-    assert_eq!(rt;
-        (images.len(), total(images.as_slice())),
-        (1_000, 1_000_000)
-    );
-    let (back, _) = preimage(
-        alloc,
-        &region,
-        images.as_slice(),
-        &region,
-        values.as_slice(),
-        false,
-        false,
-    )?;
-    assert_eq!(rt; (back.len(), total(back.as_slice())), (1_000, 1_000_000));
-    if let (Some(image), Some(part)) = (images.get(1), back.get(1)) {
-        assert_eq!(rt; (image.at(0), image.at(1)), (Some(7_000), Some(7_007)));
-        assert_eq!(rt; (part.at(0), part.at(999)), (Some(1_000), Some(1_999)));
-    }
+    let images = images_of_parts(alloc, &region, values.as_slice())?;
+    let back = preimages_of(alloc, images.as_slice(), &region, values.as_slice())?;
+    assert!(rt; are_thousands(images.as_slice(), back.as_slice()));
     Ok(())
 }

@@ -42,17 +42,31 @@ fn every(alloc: Global, step: u32) -> Result<Plane, AllocError>
     builder.finish()
 }
 
-/// Whether a plane has these points, each at its place.
-fn has_points(alloc: Global, plane: &Plane, want: &[u32]) -> Result<bool, AllocError> {
-    let mut points = Vec::new(alloc);
-    for place in 0..plane.len() {
-        if let Some(point) = plane.at(place) {
-            if plane.has(point) && plane.place_of(point) == Some(place) {
-                points.push(point)?;
-            }
+/// Whether a plane has these points and no others, each at its place.
+fn has_points(plane: &Plane, want: &[u32]) -> bool {
+    let mut place = 0_u32;
+    for point in want {
+        let found = (plane.at(place), plane.place_of(*point), plane.has(*point));
+        if found != (Some(*point), Some(place), true) {
+            return false;
         }
+        place = place.wrapping_add(1);
     }
-    Ok(points.as_slice() == want)
+    plane.len() as usize == want.len()
+}
+
+/// Whether the union, the meet and the difference of two planes have these points.
+fn come_out(
+    a: &Plane,
+    b: &Plane,
+    either: &[u32],
+    both: &[u32],
+    rest: &[u32],
+) -> Result<bool, AllocError> {
+    let union = a.union(b)?;
+    let meet = a.meet(b)?;
+    let minus = a.minus(b)?;
+    Ok(has_points(&union, either) && has_points(&meet, both) && has_points(&minus, rest))
 }
 
 /// How many points either of two planes has, both have, and the first alone has.
@@ -98,11 +112,11 @@ fn small_planes(rt: HostRuntime) -> Result<(), AllocError> {
     for (left, right, either, both, rest) in rows {
         let a = made(alloc, left)?;
         let b = made(alloc, right)?;
-        assert!(rt; has_points(alloc, &a.union(&b)?, either)?, "{either:?}");
-        assert!(rt; has_points(alloc, &a.meet(&b)?, both)?, "{both:?}");
-        assert!(rt; has_points(alloc, &a.minus(&b)?, rest)?, "{rest:?}");
-        assert_eq!(rt; a.meets(&b), !both.is_empty());
-        assert_eq!(rt; a.within(&b), rest.is_empty());
+        assert!(rt; come_out(&a, &b, either, both, rest)?, "{either:?}");
+        assert_eq!(rt;
+            [a.meets(&b), a.within(&b)],
+            [!both.is_empty(), rest.is_empty()]
+        );
     }
     Ok(())
 }
@@ -114,28 +128,45 @@ fn of_list(alloc: Global, points: &[u32]) -> Result<Plane, AllocError>
     Plane::from_sorted(alloc, points)
 }
 
-#[test]
-fn lists_and_words(rt: HostRuntime) -> Result<(), AllocError> {
-    let alloc = rt.alloc();
-    let plane = of_list(alloc, &[3, 63, 64, 200])?;
-    let rest = plane.minus(&made(alloc, &[(0, 65)])?)?.copy()?;
-    assert!(rt; has_points(alloc, &plane, &[3, 63, 64, 200])?);
-    assert!(rt; has_points(alloc, &rest, &[200])?);
-    let none = of_list(alloc, &[])?;
-    let rows = [(&plane, 4, 3), (&rest, 1, 1), (&none, 0, 0)];
-    for (set, words, stretches) in rows {
-        assert_eq!(rt; (set.words(), set.stretches()), (words, stretches));
-    }
-    let from = [
+/// Whether the stretches of 3, 63, 64 and 200 are found from before, within and behind them.
+fn stretches_are_found(plane: &Plane) -> bool {
+    let rows = [
         (0, Some(3..4)),
         (4, Some(63..65)),
         (64, Some(64..65)),
         (65, Some(200..201)),
         (201, None),
     ];
-    for (point, stretch) in from {
-        assert_eq!(rt; plane.stretch_from(point), stretch);
+    for (point, stretch) in rows {
+        if plane.stretch_from(point) != stretch {
+            return false;
+        }
     }
+    true
+}
+
+/// A copy of a plane without the points below 65.
+fn without_first(alloc: Global, plane: &Plane) -> Result<Plane, AllocError> {
+    let rest = plane.minus(&range(alloc, 0, 65)?)?;
+    rest.copy()
+}
+
+#[test]
+fn lists_and_words(rt: HostRuntime) -> Result<(), AllocError> {
+    let alloc = rt.alloc();
+    let plane = of_list(alloc, &[3, 63, 64, 200])?;
+    let rest = without_first(alloc, &plane)?;
+    let none = of_list(alloc, &[])?;
+    let rows: [(&Plane, &[u32], usize, u32); 3] = [
+        (&plane, &[3, 63, 64, 200], 4, 3),
+        (&rest, &[200], 1, 1),
+        (&none, &[], 0, 0),
+    ];
+    for (set, points, words, stretches) in rows {
+        let found = (has_points(set, points), set.words(), set.stretches());
+        assert_eq!(rt; found, (true, words, stretches));
+    }
+    assert!(rt; stretches_are_found(&plane));
     Ok(())
 }
 
@@ -144,19 +175,24 @@ fn even_and_third_points(rt: HostRuntime) -> Result<(), AllocError> {
     let alloc = rt.alloc();
     let even = every(alloc, 2)?;
     let third = every(alloc, 3)?;
+    let counts = [even.len(), third.len(), even.stretches()];
     assert_eq!(rt;
-        [even.len(), third.len(), even.stretches()],
-        [2_097_152, 1_398_102, 2_097_152]
+        (counts, sizes(&even, &third)?),
+        (
+            [2_097_152, 1_398_102, 2_097_152],
+            [2_796_203, 699_051, 1_398_101]
+        )
     );
-    assert_eq!(rt; sizes(&even, &third)?, [2_796_203, 699_051, 1_398_101]);
-    assert_eq!(rt; [even.meets(&third), even.within(&third)], [true, false]);
+    let related = [even.meets(&third), even.within(&third)];
+    let points = [even.at(1_000_000), even.at(2_097_152)];
+    let places = [even.place_of(4_194_302), even.place_of(3)];
     assert_eq!(rt;
-        [even.at(1_000_000), even.at(2_097_152)],
-        [Some(2_000_000), None]
-    );
-    assert_eq!(rt;
-        [even.place_of(4_194_302), even.place_of(3)],
-        [Some(2_097_151), None]
+        (related, points, places),
+        (
+            [true, false],
+            [Some(2_000_000), None],
+            [Some(2_097_151), None]
+        )
     );
     Ok(())
 }
@@ -171,12 +207,16 @@ fn all_points(rt: HostRuntime) -> Result<(), AllocError> {
         (all.len(), all.words(), all.stretches()),
         (LIMIT, 65_536, 1)
     );
-    assert_eq!(rt; sizes(&odd, &even)?, [LIMIT, 0, 2_097_152]);
+    assert!(rt; all.stretch_from(100) == Some(100..LIMIT));
+    let related = [
+        odd.meets(&even),
+        odd.within(&all),
+        all.within(&odd),
+        all.has(LIMIT),
+    ];
     assert_eq!(rt;
-        [odd.meets(&even), odd.within(&all), all.within(&odd)],
-        [false, true, false]
+        (sizes(&odd, &even)?, related),
+        ([LIMIT, 0, 2_097_152], [false, true, false, false])
     );
-    assert_eq!(rt; all.stretch_from(100), Some(100..LIMIT));
-    assert_eq!(rt; all.has(LIMIT), false);
     Ok(())
 }

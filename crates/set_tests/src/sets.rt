@@ -16,20 +16,31 @@ fn made(alloc: Global, ranges: &[(u32, u32)]) -> Result<PointSet, AllocError> {
     Ok(set)
 }
 
-/// Whether a set that was made has these points.
-fn has_points(
-    alloc: Global,
-    made: Result<PointSet, AllocError>,
-    want: &[u32],
-) -> Result<bool, AllocError> {
+/// Whether a set that was made has these points and no others.
+fn has_points(made: Result<PointSet, AllocError>, want: &[u32]) -> Result<bool, AllocError> {
     let set = made?;
-    let mut points = Vec::new(alloc);
-    for place in 0..set.len() {
-        if let Some(point) = set.at(place) {
-            points.push(point)?;
+    let mut place = 0_u32;
+    for point in want {
+        if set.at(place) != Some(*point) {
+            return Ok(false);
         }
+        place = place.wrapping_add(1);
     }
-    Ok(points.as_slice() == want)
+    Ok(set.len() as usize == want.len())
+}
+
+/// Whether the union, the meet and the difference of two sets have these points.
+fn come_out(
+    a: &PointSet,
+    b: &PointSet,
+    either: &[u32],
+    both: &[u32],
+    rest: &[u32],
+) -> Result<bool, AllocError> {
+    let union = has_points(a.union(b), either)?;
+    let meet = has_points(a.meet(b), both)?;
+    let minus = has_points(a.minus(b), rest)?;
+    Ok(union && meet && minus)
 }
 
 /// How many points a set that was made has.
@@ -84,11 +95,11 @@ fn small_sets(rt: HostRuntime) -> Result<(), AllocError> {
     for (left, right, either, both, rest) in rows {
         let a = made(alloc, left)?;
         let b = made(alloc, right)?;
-        assert!(rt; has_points(alloc, a.union(&b), either)?, "{either:?}");
-        assert!(rt; has_points(alloc, a.meet(&b), both)?, "{both:?}");
-        assert!(rt; has_points(alloc, a.minus(&b), rest)?, "{rest:?}");
-        assert_eq!(rt; a.meets(&b), !both.is_empty());
-        assert_eq!(rt; a.within(&b), rest.is_empty());
+        assert!(rt; come_out(&a, &b, either, both, rest)?, "{either:?}");
+        assert_eq!(rt;
+            [a.meets(&b), a.within(&b)],
+            [!both.is_empty(), rest.is_empty()]
+        );
     }
     Ok(())
 }
@@ -97,16 +108,15 @@ fn small_sets(rt: HostRuntime) -> Result<(), AllocError> {
 fn edges(rt: HostRuntime) -> Result<(), AllocError> {
     let alloc = rt.alloc();
     let all = made(alloc, &[(0, POINT_LIMIT)])?;
-    assert_eq!(rt; all.len(), 4_194_304);
-    assert_eq!(rt; all.at(4_194_303), Some(4_194_303));
-    assert_eq!(rt; all.at(4_194_304), None);
-    assert_eq!(rt; all.place_of(4_194_303), Some(4_194_303));
-    assert_eq!(rt; all.place_of(4_194_304), None);
-    assert_eq!(rt; all.has(4_194_304), false);
     let none = made(alloc, &[(5, 2)])?;
-    assert_eq!(rt; none.len(), 0);
-    assert_eq!(rt; none.at(0), None);
-    assert_eq!(rt; none.within(&all), true);
+    assert_eq!(rt; [all.len(), none.len()], [4_194_304, 0]);
+    let points = [all.at(4_194_303), all.at(4_194_304), none.at(0)];
+    let places = [all.place_of(4_194_303), all.place_of(4_194_304)];
+    assert_eq!(rt;
+        (points, places),
+        ([Some(4_194_303), None, None], [Some(4_194_303), None])
+    );
+    assert_eq!(rt; [all.has(4_194_304), none.within(&all)], [false, true]);
     Ok(())
 }
 
@@ -136,10 +146,30 @@ fn two_points(rt: HostRuntime) -> Result<(), AllocError> {
         (5, false, None, None),
     ];
     for (number, held, place, point) in rows {
-        assert_eq!(rt; pair.has(number), held);
-        assert_eq!(rt; (pair.place_of(number), pair.at(number)), (place, point));
+        let found = (pair.has(number), pair.place_of(number), pair.at(number));
+        assert_eq!(rt; found, (held, place, point));
     }
     Ok(())
+}
+
+/// Whether each even point is at its half's place among the even ones, and none of them among the odd ones.
+fn halves_are_places(even: &PointSet, odd: &PointSet) -> bool {
+    for half in 0..POINT_LIMIT / 2 {
+        let point = 2 * half;
+        let found = (even.at(half), even.place_of(point), odd.has(point));
+        if found != (Some(point), Some(half), false) {
+            return false;
+        }
+    }
+    true
+}
+
+/// How many points a copy of the even ones has, the odd ones, both together, and those of all points that are odd.
+fn run_sizes(all: &PointSet, even: &PointSet, odd: &PointSet) -> Result<[u32; 4], AllocError> {
+    let copied = size(even.copy())?;
+    let together = size(even.union(odd))?;
+    let meet = size(all.meet(odd))?;
+    Ok([copied, odd.len(), together, meet])
 }
 
 #[test]
@@ -148,18 +178,15 @@ fn two_million_runs(rt: HostRuntime) -> Result<(), AllocError> {
     let even = PointSet::from_sorted(alloc, evens(alloc)?.as_slice())?;
     let all = made(alloc, &[(0, POINT_LIMIT)])?;
     let odd = all.minus(&even)?;
-    assert_eq!(rt; (size(even.copy())?, odd.len()), (2_097_152, 2_097_152));
-    assert_eq!(rt; size(even.union(&odd))?, 4_194_304);
-    assert_eq!(rt; size(all.meet(&odd))?, 2_097_152);
+    let related = [even.meets(&odd), odd.within(&all), all.within(&odd)];
     assert_eq!(rt;
-        (even.meets(&odd), odd.within(&all), all.within(&odd)),
-        (false, true, false)
+        (run_sizes(&all, &even, &odd)?, related),
+        (
+            [2_097_152, 2_097_152, 4_194_304, 2_097_152],
+            [false, true, false]
+        )
     );
-    for half in 0..POINT_LIMIT / 2 {
-        assert_eq!(rt; even.at(half), Some(2 * half));
-        assert_eq!(rt; even.place_of(2 * half), Some(half));
-        assert_eq!(rt; odd.has(2 * half), false);
-    }
+    assert!(rt; halves_are_places(&even, &odd));
     Ok(())
 }
 

@@ -133,28 +133,46 @@ fn thousands_of_facts(rt: HostRuntime) -> Result<(), Fail> {
     Ok(())
 }
 
-// What comes after a name in a chain of a thousand.
-fn link(i: u32) -> Known
+// The order in which the links of a chain are told: rising, falling, or every second one and then the rest.
+#[derive(Clone, Copy, Debug)]
+enum Order {
+    Rising,
+    Falling,
+    Joined,
+}
+
+// The link of a chain of a thousand that is told in its turn.
+fn link(order: Order, i: u32) -> Known
     requires { i < 1000 }
 {
-    Known::Within(Term::Name(i), Term::Name(i + 1))
+    let name = match order {
+        Order::Rising => i,
+        Order::Falling => 999 - i,
+        Order::Joined => { if i < 500 { 2 * i } else { 2 * i - 999 } }
+    };
+    Known::Within(Term::Name(name), Term::Name(name + 1))
+}
+
+// The facts of a chain of a thousand, told in an order.
+fn chain(alloc: Global, order: Order) -> Result<Facts, AllocError> {
+    let mut facts = Facts::new(alloc)?;
+    for i in 0..1000 {
+        facts.add(link(order, i))?;
+    }
+    Ok(facts)
 }
 
 #[test]
 fn chains_of_a_thousand(rt: HostRuntime) -> Result<(), Fail> {
-    let mut rising = Facts::new(rt.alloc())?;
-    let mut falling = Facts::new(rt.alloc())?;
-    let mut joined = Facts::new(rt.alloc())?;
-    for i in 0..1000 {
-        rising.add(link(i))?;
-        falling.add(link(999 - i))?;
-        joined.add(link(if i < 500 { 2 * i } else { 2 * i - 999 }))?;
-    }
-    for facts in [&rising, &falling, &joined] {
-        assert!(rt; facts.subregion(&Term::Name(0), &Term::Name(1000)));
-        assert!(rt; facts.subregion(&Term::Name(499), &Term::Name(501)));
-        assert!(rt; !facts.subregion(&Term::Name(501), &Term::Name(499)));
-        assert!(rt; !facts.disjoint(&Term::Name(0), &Term::Name(1000)));
+    for order in [Order::Rising, Order::Falling, Order::Joined] {
+        let facts = chain(rt.alloc(), order)?;
+        let within = [
+            facts.subregion(&Term::Name(0), &Term::Name(1000)),
+            facts.subregion(&Term::Name(499), &Term::Name(501)),
+            facts.subregion(&Term::Name(501), &Term::Name(499)),
+        ];
+        let apart = facts.disjoint(&Term::Name(0), &Term::Name(1000));
+        assert_eq!(rt; (within, apart), ([true, true, false], false), "{order:?}");
     }
     Ok(())
 }

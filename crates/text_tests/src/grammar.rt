@@ -60,28 +60,14 @@ fn words_and_signs(rt: HostRuntime) -> Result<(), Fail> {
 
 #[test]
 fn numbers(rt: HostRuntime) -> Result<(), Fail> {
-    let alloc = rt.alloc();
-    let (value, width) = (2_147_483_647, Width::W32);
-    assert_one(
-        &rt,
-        alloc,
-        b"\n2147483647".as_slice(),
-        &Symbol::Number { value, width },
-    )?;
-    let width = Width::W64;
-    assert_one(
-        &rt,
-        alloc,
-        b"\n2147483647LL".as_slice(),
-        &Symbol::Number { value, width },
-    )?;
-    let value = 2_147_483_648;
-    assert_one(
-        &rt,
-        alloc,
-        b"\n2147483648".as_slice(),
-        &Symbol::Number { value, width },
-    )
+    for (text, value, width) in [
+        (b"\n2147483647".as_slice(), 2_147_483_647, Width::W32),
+        (b"\n2147483647LL".as_slice(), 2_147_483_647, Width::W64),
+        (b"\n2147483648".as_slice(), 2_147_483_648, Width::W64),
+    ] {
+        assert_one(&rt, rt.alloc(), text, &Symbol::Number { value, width })?;
+    }
+    Ok(())
 }
 
 #[test]
@@ -98,8 +84,10 @@ fn a_large_text(rt: HostRuntime) -> Result<(), Fail> {
     let alloc = rt.alloc();
     let text = "if x1 <= 27 \"\\n\"\n".repeat(alloc, 8192)?;
     let found = terminals_of(&rt, alloc, text.as_bytes())?;
-    assert_eq!(rt; found.len(), 40960);
-    assert_eq!(rt; found.last().map(|terminal| terminal.line), Some(8192));
+    let Some(last) = found.last() else {
+        return Err(Fail::new("there is no terminal"));
+    };
+    assert_eq!(rt; (found.len(), last.line), (40960, 8192));
     Ok(())
 }
 

@@ -37,13 +37,17 @@ fn add(items: &mut Vec<Item>, what: ItemKind) -> Result<(), AllocError> {
     Ok(())
 }
 
-// The field space p, the task m and the alias c.
+// Adds the field space p, the task m and the alias c.
+fn add_three(alloc: Global, items: &mut Vec<Item>) -> Result<(), AllocError> {
+    add(items, space(alloc, name(alloc, b'p')?))?;
+    add(items, task(alloc, name(alloc, b'm')?))?;
+    let c = name(alloc, b'c')?;
+    add(items, ItemKind::Alias { name: c })
+}
+
 fn program(alloc: Global) -> Result<Program, AllocError> {
     let mut items = Vec::new(alloc);
-    add(&mut items, space(alloc, name(alloc, b'p')?))?;
-    add(&mut items, task(alloc, name(alloc, b'm')?))?;
-    let c = name(alloc, b'c')?;
-    add(&mut items, ItemKind::Alias { name: c })?;
+    add_three(alloc, &mut items)?;
     Ok(Program { items })
 }
 
@@ -65,16 +69,31 @@ fn items_are_found_by_name(rt: HostRuntime) -> Result<(), Fail> {
     Ok(())
 }
 
-// The numbers that a name stands for, first with two bindings and then with one.
+// Binds the name a to a number.
+fn bind_a(alloc: Global, names: &mut Names, number: u32) -> Result<(), AllocError> {
+    let a = name(alloc, b'a')?;
+    names.bind(a, number, StaticType::Truth, false)?;
+    Ok(())
+}
+
+// The number that a name stands for, and whether a loop gives it.
+fn bound(names: &Names, name: &Name) -> Option<(u32, bool)> {
+    match names.bound_to(name) {
+        Some(bound) => Some((bound.number, bound.by_loop)),
+        None => None,
+    }
+}
+
+// Whether a name stands for what it was bound to last, first with two bindings and then with one.
 fn numbers(alloc: Global) -> Result<(bool, bool), AllocError> {
     let a = name(alloc, b'a')?;
     let mut names = Names::new(alloc);
-    names.bind(copy_name(alloc, &a)?, 5, StaticType::Truth, false)?;
-    names.bind(copy_name(alloc, &a)?, 6, StaticType::Truth, false)?;
-    let hiding = names.bound_to(&a).is_some_and(|bound| bound.number == 6);
+    bind_a(alloc, &mut names, 5)?;
+    bind_a(alloc, &mut names, 6)?;
+    let hiding = bound(&names, &a) == Some((6, false));
     let both = names.len() == 2 && names.bound_as(5).is_some();
     names.forget_to(1);
-    let hidden = names.bound_to(&a).is_some_and(|bound| bound.number == 5);
+    let hidden = bound(&names, &a) == Some((5, false));
     Ok((hiding && both, hidden))
 }
 
@@ -95,18 +114,27 @@ fn many_items(alloc: Global, count: u32) -> Result<Program, AllocError> {
     Ok(Program { items })
 }
 
+// The place of the field space that has a name, and whether a task and an alias have it.
+fn found(
+    alloc: Global,
+    program: &Program,
+    name: &Name,
+) -> Result<(Option<u32>, bool, bool), AllocError> {
+    let tables = Tables::new(alloc, program)?;
+    let is_task = tables.task(name).is_some();
+    Ok((tables.space(name), is_task, tables.has_alias(name)))
+}
+
 #[test]
 fn items_of_each_kind_are_held(rt: HostRuntime) -> Result<(), Fail> {
     let alloc = rt.alloc();
     for (count, last) in [(0, 0), (10, 0), (20_000, 1_999)] {
         let program = many_items(alloc, count)?;
         let name = numbered(alloc, last)?;
-        let tables = Tables::new(alloc, &program)?;
         let place = if count == 0 { None } else { Some(2 * last) };
-        assert_eq!(rt; tables.space(&name), place);
         assert_eq!(rt;
-            (tables.task(&name).is_some(), tables.has_alias(&name)),
-            (count > 0, count > 0)
+            found(alloc, &program, &name)?,
+            (place, count > 0, count > 0)
         );
     }
     Ok(())
@@ -131,9 +159,7 @@ fn many_names(alloc: Global, count: u32) -> Result<Names, AllocError> {
 fn a_hundred_thousand_names(rt: HostRuntime) -> Result<(), Fail> {
     let names = many_names(rt.alloc(), 100_000)?;
     let last = numbered(rt.alloc(), 49_999)?;
-    let found = names
-        .bound_to(&last)
-        .map(|bound| (bound.number, bound.by_loop));
+    let found = bound(&names, &last);
     assert_eq!(rt; (names.len(), found), (100_000, Some((99_999, true))));
     Ok(())
 }
@@ -162,8 +188,9 @@ fn a_parameter_is_found_by_name(rt: HostRuntime) -> Result<(), Fail> {
     let params = param_y(rt.alloc())?;
     for (byte, place, or_len) in [(b'y', Some(0), 0), (b'z', None, 1)] {
         let name = name(rt.alloc(), byte)?;
-        assert_eq!(rt; place_in(params.as_slice(), &name), place);
-        assert_eq!(rt; place_or_len(params.as_slice(), &name)?, or_len);
+        let params = params.as_slice();
+        let found = (place_in(params, &name), place_or_len(params, &name)?);
+        assert_eq!(rt; found, (place, or_len));
     }
     Ok(())
 }
