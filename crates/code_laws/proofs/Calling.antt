@@ -3,7 +3,8 @@ use Rattle.std.proofs.Common.{◌≡◌, ℕ, zero, suc, ◌^◌, ◌<◌, ◌�
 use Rattle.std.specs.Prelude.{cond, get_or, length, map, nat_lt, option_map, slice_get, take}
 use Rattle.std.proofs.lemmas.Bool.{cases_lt, eq-eqb, le-leb, le-ltb, lt-ltb}
 use Rattle.std.proofs.lemmas.List.{append-nil, get_or_default, length-map}
-use Rattle.std.proofs.lemmas.Option.{slice_get-map}
+use Rattle.std.proofs.lemmas.Option.{slice_get-get_or, slice_get-map}
+use Rattle.eager_laws.specs.Steps.{known, known_as, known_top, resolved}
 use Rattle.std.proofs.Math.Seq.{get_or-append_seam}
 use Rattle.region_tree.specs.declared.tree.RootId.{RootId}
 use Rattle.regent_tree.specs.Evaluation.{answered, called}
@@ -115,7 +116,16 @@ module _ (x : Setting) (params slots : ℕ) (fit : SlotsFit x slots) {deep : ℕ
       × Returns h.tree task v
 
   abbrev pub pending : ℕ → ℕ → List MachineValue → Value → Instance → Instance
-  pending n pc st v j = placed pc (machine.Pending n ∷ st) j
+  pending n pc st v j = placed pc (machine.Number (kept_number v) ∷ st) j
+
+  -- an instance in which the child on top of the stack is resolved
+  abbrev told_in : Instance → Instance
+  told_in k = record k { frame = record k.frame { stack = known_top k.results k.frame.stack } }
+
+  known_last : (rs : List ℤ) (z : ℤ) (n : ℕ) → n ≡ length rs → known (rs ++ z ∷ []) (machine.Pending n) ≡ machine.Number z
+  known_last rs z n e = ap (λ o. known_as o n)
+      (slice_get-get_or (rs ++ z ∷ []) n (pos 0) (omega (arith, e, length-append rs (z ∷ [])))
+      ∙ ap (λ m. Some (get_or (rs ++ z ∷ []) m (pos 0))) e ∙ ap (λ y. Some y) (get_or-append_seam rs z [] (pos 0)))
 
   -- the machine at a call, up to the turn
   call_acts : (c : Contents) (place line : ℕ) (vs : List Value) (st : List MachineValue) (t : TaskCode) (m : Machine) →
@@ -230,7 +240,7 @@ module _ (x : Setting) (params slots : ℕ) (fit : SlotsFit x slots) {deep : ℕ
       Agrees x params slots aside h s i → i.frame.turns ≡ suc n → (task : Name) (d : Called) (e : Ended) →
       Matches h.tree x.code (Returns h.tree task) s.store (numbers (give_parts i.parts i.contents)) d e →
       ((r : Resumed) → on_resumed (after_call e (give_all (calls_out n pc st i))) (λ k. resumes.GoesOn k) ≡ r →
-      ((k : Instance) → r ≡ resumes.GoesOn k → Leads x j0 k) × ((b : Ended) → r ≡ resumes.IsOver b → Ends x j0 b)) →
+      ((k : Instance) → r ≡ resumes.GoesOn k → Leads x j0 (told_in k)) × ((b : Ended) → r ≡ resumes.IsOver b → Ends x j0 b)) →
       Comes x j0 (pending i.frame.children (suc pc) st) (HasResult i.frame.children h task)
       (answered d (record s { turns = n }))
   comes_back h s i j0 n pc st g q task _ _ (both_back v after text result own c typed value same kept_after stands is) by =
@@ -240,7 +250,9 @@ module _ (x : Setting) (params slots : ℕ) (fit : SlotsFit x slots) {deep : ℕ
         text = i.text ++ text;
       } in (
         k,
-        (by (resumes.GoesOn k) refl).0 k refl,
+        subst (λ u. Leads x j0 (placed (suc pc) (u ∷ st) k))
+            (known_last i.results (result_of result) i.frame.children g.calls.children ∙ ap (λ z. machine.Number z) value)
+            ((by (resumes.GoesOn k) refl).0 k refl),
         (
           agrees_after h s i n pc st after text (result_of result) own c g q same kept_after stands is,
           ap (λ m. get_or (i.results ++ result_of result ∷ []) m (pos 0)) g.calls.children
@@ -270,11 +282,11 @@ module _ (x : Setting) (params slots : ℕ) (fit : SlotsFit x slots) {deep : ℕ
           Comes x (placed pc (pushed_all i.contents vs st) i) (pending i.frame.children (suc pc) st) (HasResult i.frame.children h task)
           (and_then (pay_from n h s) (λ _ s1. answered (h.calls h.line task vs s1.store) s1))
       by_turns zero e = ends_by x _ _ (instr.Call (place_of_task h.tree task) (length vs)) h.line f
-          (ap (on_step x (placed pc (pushed_all i.contents vs st) i))
+          (ap resolved (ap (on_step x (placed pc (pushed_all i.contents vs st) i))
           (call_acts i.contents (place_of_task h.tree task) h.line vs st code (machine_of (placed pc (pushed_all i.contents vs st) i)) there (sym (room_for h task vs x.forms.takes x.code s.store (give_parts i.parts i.contents) takes).0) refl
           ∙ ap (λ n. on_turn n h.line (machine_of (placed pc (pushed_all i.contents vs st) i)) (λ p. when (nat_lt p.frame.depth 64)
           (yield_call (place_of_task h.tree task) (map (machine_value i.contents) vs) st p) (faults Depth h.line p))) (g.turns ∙ e))
-          ∙ ap (λ t. resumes.IsOver (Broke (Some (record { kind = Turns; line = h.line })) t)) g.text)
+          ∙ ap (λ t. resumes.IsOver (Broke (Some (record { kind = Turns; line = h.line })) t)) g.text))
       by_turns (suc n) e = by_depth (cases_lt x.depth 64)
         where
           paid : act x.code x.body (instr.Call (place_of_task h.tree task) (length vs)) h.line (machine_of (placed pc (pushed_all i.contents vs st) i))
@@ -291,10 +303,10 @@ module _ (x : Setting) (params slots : ℕ) (fit : SlotsFit x slots) {deep : ℕ
               (HasResult i.frame.children h task) (answered d (record s { turns = n })))
               (sym (ok.at_end deep h.line task vs s.store))
               (ends_by x _ _ (instr.Call (place_of_task h.tree task) (length vs)) h.line f
-              (ap (on_step x (placed pc (pushed_all i.contents vs st) i)) (paid ∙ ap (λ b. when b (yield_call (place_of_task h.tree task) (map (machine_value i.contents) vs) st (with_turns n (machine_of (placed pc (pushed_all i.contents vs st) i))))
+              (ap resolved (ap (on_step x (placed pc (pushed_all i.contents vs st) i)) (paid ∙ ap (λ b. when b (yield_call (place_of_task h.tree task) (map (machine_value i.contents) vs) st (with_turns n (machine_of (placed pc (pushed_all i.contents vs st) i))))
               (faults Depth h.line (with_turns n (machine_of (placed pc (pushed_all i.contents vs st) i))))) (ap (λ d. nat_lt d 64) g.calls.depth ∙ le-ltb x.depth 64 deep))
               ∙ ap (λ t. resumes.IsOver (Broke (Some (record { kind = Depth; line = h.line })) t))
-              (g.text ∙ sym (append-nil s.text))))
+              (g.text ∙ sym (append-nil s.text)))))
           by_depth (inl shallow) =
               let i0 = placed pc (pushed_all i.contents vs st) i in
               let y = calls_out n pc st i in
@@ -320,6 +332,6 @@ module _ (x : Setting) (params slots : ℕ) (fit : SlotsFit x slots) {deep : ℕ
               (begun_holds x.code s.store i (opening x.turns (suc x.depth) place code (map (machine_value c) vs)) code.needs (map (machine_value c) vs) takes.needs
               g.memory refl takes.required within))
               (λ r q. (
-                λ k d. leads_by x _ _ (instr.Call place (length vs)) h.line f (steps ∙ q ∙ d),
-                λ b d. ends_by x _ _ (instr.Call place (length vs)) h.line f (steps ∙ q ∙ d),
+                λ k d. leads_by x _ _ (instr.Call place (length vs)) h.line f (ap resolved (steps ∙ q ∙ d)),
+                λ b d. ends_by x _ _ (instr.Call place (length vs)) h.line f (ap resolved (steps ∙ q ∙ d)),
               ))

@@ -26,7 +26,7 @@ use Rattle.memory_laws.specs.Places.{number_at}
 use Rattle.memory_laws.specs.Touches.{Covers, IsCovered}
 use Rattle.memory_laws.proofs.Finding.{covered_is_found}
 use Rattle.memory_laws.proofs.Touching.{found_is_read, found_tells}
-use Rattle.machine_terms.proofs.StepKinds.{is_launch}
+use Rattle.code_laws.specs.Steps.{is_issue}
 use Rattle.code_laws.specs.Steps.{Leads, Setting, machine_of, on_step, placed}
 use Rattle.code_laws.specs.Standing.{Stands}
 use Rattle.code_laws.proofs.Touching.{parted, touches}
@@ -72,7 +72,7 @@ module _ (x : Setting) (i : Instance) (place f : ℕ) (store : Store) where
 
   -- an instruction that reads a field at each of these points goes on with the store's numbers
   pub columns : (pc line : ℕ) (st : List MachineValue) (ins : Instr) (xs : List ℕ) (T : Instance → Type 0)
-      (k : Machine → List ℤ → Bool → Stepped) → is_launch ins ≡ false → Holds x.code store (memory_of i) → ((p : ℕ) → has xs p ≡ true → MayRead p) →
+      (k : Machine → List ℤ → Bool → Stepped) → is_issue ins ≡ false → Holds x.code store (memory_of i) → ((p : ℕ) → has xs p ≡ true → MayRead p) →
       Stands x.body pc (op ins line) →
       ((ps : List Part) → act x.code x.body ins line (machine_of (placed pc st (parted ps i)))
       ≡ on_column (machine_of (placed pc st (parted ps i))) (region_with root xs) f (k (machine_of (placed pc st (parted ps i))))) →

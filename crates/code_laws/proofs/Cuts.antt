@@ -49,7 +49,7 @@ use Rattle.code_rules.specs.Expressions.{steps_code}
 use Rattle.code_rules.specs.Instructions.{load_code}
 use Rattle.code_rules.specs.Pieces.{op, ◌⨟◌}
 use Rattle.code_rules.specs.Slots.{own_slot, slot, slot_named}
-use Rattle.machine_terms.proofs.StepKinds.{is_launch}
+use Rattle.code_laws.specs.Steps.{is_issue}
 use Rattle.code_laws.specs.Arguments.{IsParent}
 use Rattle.code_laws.specs.Pointers.{IsCut, IsPointed}
 use Rattle.code_laws.specs.Simple.{IsPartition, IsRegion, IsSpace, a_partition_type, a_space_type}
@@ -157,7 +157,7 @@ module _ (x : Setting) (params slots : ℕ) (fit : SlotsFit x slots) {deep : ℕ
   -- ---- with a colour space on the stack
 
   -- of the region of a name; too large a colour space is a fault
-  pub coloured_runs : (h : Here) (from : StaticType) (v : Value) (r : Name) (t : StaticType) (ins : Instr) → is_launch ins ≡ false →
+  pub coloured_runs : (h : Here) (from : StaticType) (v : Value) (r : Name) (t : StaticType) (ins : Instr) → is_issue ins ≡ false →
       (acts : Machine → RegionValue → ℕ → List MachineValue → Stepped) (makes : ℕ → Region → Run Value) (s : State) (pc : ℕ) (i : Instance) →
       IsSpace from → IsOf from v → (q : NamedRegion h (bound_to h.scope.names r) s i) → Agrees x params slots aside h s i →
       Stands x.body pc (op ins h.line) →

@@ -19,7 +19,7 @@ use Rattle.code_rules.specs.Initializers.{initializer_code, new_place, plain_cod
 use Rattle.code_rules.specs.Instructions.{one}
 use Rattle.code_rules.specs.Pieces.{Piece, op, past, ◌⨟◌}
 use Rattle.code_rules.specs.Slots.{Where, slot, slot_bound, slot_named, typed}
-use Rattle.code_rules.specs.Statements.{form_code}
+use Rattle.code_rules.specs.Statements.{begun_form, form_code}
 use Rattle.code_laws.specs.Pointers.{IsLike, IsPointed, like_partition}
 use Rattle.code_laws.specs.Simple.{IsPartition, IsRegion, a_partition_type}
 use Rattle.code_laws.specs.Standing.{Agrees, Aside, Comes, Does, IsInside, IsOf, SlotsFit, Stands, where_of}
@@ -56,8 +56,8 @@ module _ (x : Setting) (params slots : ℕ) (fit : SlotsFit x slots) (counts : C
   -- one instruction makes the partition, which the name is bound to
   pub difference_begins : (aside : Aside 0) (h : Here) (n : Name) (e : Expression) (s : State) (pc : ℕ) (i : Instance) → params ≤ length h.scope.names →
       IsDifference (where_of params h) e → Agrees x params slots aside h s i →
-      Stands x.body pc (form_code (where_of params h) (var_form n None (Some (plain_initializer e)))) →
-      Does x params slots aside (placed pc [] i) (past (form_code (where_of params h) (var_form n None (Some (plain_initializer e)))) pc)
+      Stands x.body pc (begun_form (where_of params h) None (Some (plain_initializer e))) →
+      Does x params slots aside (placed pc [] i) (past (begun_form (where_of params h) None (Some (plain_initializer e))) pc)
       (after_statement h (var_form n None (Some (plain_initializer e)))) (exec h (var_form n None (Some (plain_initializer e))) s)
   difference_begins aside h n (chain_expr (access_expr p no_step) (a_link (Compute Subtract) (access_expr q no_step) no_link)) s pc i low pair g f =
       let w = where_of params h in
@@ -86,8 +86,8 @@ module _ (x : Setting) (params slots : ℕ) (fit : SlotsFit x slots) (counts : C
   pub difference_said : (aside : Aside 0) (h : Here) (n : Name) (t : TypeTerm) (e : Expression) (s : State) (pc : ℕ) (i : Instance) → params ≤ length h.scope.names →
       IsDifference (where_of params h) e →
       IsLike (var_type h.tree h.scope (Some t) (Some (plain_initializer e))) (initializer_type h.tree h.scope h.scope.next (plain_initializer e)) →
-      Agrees x params slots aside h s i → Stands x.body pc (form_code (where_of params h) (var_form n (Some t) (Some (plain_initializer e)))) →
-      Does x params slots aside (placed pc [] i) (past (form_code (where_of params h) (var_form n (Some t) (Some (plain_initializer e)))) pc)
+      Agrees x params slots aside h s i → Stands x.body pc (begun_form (where_of params h) (Some t) (Some (plain_initializer e))) →
+      Does x params slots aside (placed pc [] i) (past (begun_form (where_of params h) (Some t) (Some (plain_initializer e))) pc)
       (after_statement h (var_form n (Some t) (Some (plain_initializer e)))) (exec h (var_form n (Some t) (Some (plain_initializer e))) s)
   difference_said aside h n t (chain_expr (access_expr p no_step) (a_link (Compute Subtract) (access_expr q no_step) no_link)) s pc i low pair like g f =
       let w = where_of params h in

@@ -41,7 +41,7 @@ use Rattle.machine_terms.specs.declared.value.Value.{Value as MachineValue}
 use Rattle.machine_terms.specs.declared.value.Value.TheVariants as machine
 use Rattle.machine_terms.specs.declared.order.Instance.{Instance}
 use Rattle.code_rules.specs.Pieces.{op, past}
-use Rattle.code_rules.specs.Slots.{spare, typed}
+use Rattle.code_rules.specs.Slots.{result, spare, typed}
 use Rattle.code_rules.specs.Expressions.{count, expr_code, exprs_code, links_code}
 use Rattle.code_rules.specs.Instructions.{converted_code, operand_code, place_of_task}
 use Rattle.code_laws.specs.Steps.{Leads, Setting, placed}
@@ -114,8 +114,8 @@ module _ (x : Setting) (params slots : ℕ) (fit : SlotsFit x slots) where
         made.takes made.within (fetch_small x.body (suc a) _ f.1.1.0) k.2 called_at)
         (λ v s2 j2 k2.
         let o = k2.2 fine.1 in
-        let r = results_run x params slots fit aside h t d j.frame.children v s2 (suc a) h.line st j2 low.0 low.1 fine.1 o k2.0 k2.1 f.1.1.0 f.1.1.1 in
-        (stored (spare w d) (machine_value j2.contents v) j2, r.0, (o, r.1))))
+        let r = results_run x params slots fit aside h t d v s2 (suc a) h.line st j2 low.0 fine.1 o k2.0 f.1.1.0 f.1.1.1 in
+        (stored (result w d) (machine_value j2.contents v) j2, r.0, (o, r.1))))
     value_at aside h d low (access_expr n (field_step name no_step)) s pc st i fine g f =
         ⊎_elim
         (λ behind. behind_reads x params slots fit aside h d n name _ s pc st i behind.0 behind.1 g f)

@@ -84,6 +84,8 @@ module _ (x : Setting) where
 
   behind_grows : (own : List RootId) (ins : Instr) (r : Resumed) → Grows own r → Grows own (behind ins r)
   behind_grows own (instr.Launch task s line args) r g = due_grows own r g
+  behind_grows own (instr.Call task n) (GoesOn j) g = g
+  behind_grows own (instr.Call task n) (IsOver e) g = tt
   behind_grows own _ r g = g
 
   pub goes_grow : (i j : Instance) (ins : Instr) (line : ℕ) →

@@ -43,7 +43,7 @@ use Rattle.memory_laws.specs.Places.{number_at}
 use Rattle.code_rules.specs.Initializers.{field_of}
 use Rattle.code_rules.specs.Pieces.{op}
 use Rattle.code_rules.specs.Slots.{slot_named}
-use Rattle.machine_terms.proofs.StepKinds.{is_launch}
+use Rattle.code_laws.specs.Steps.{is_issue}
 use Rattle.code_laws.specs.Arguments.{IsCutName, IsParent, LiesBelow, parent_bound}
 use Rattle.code_laws.specs.Standing.{Agrees, Aside, Comes, SlotsFit, Stands, nothing, of_partition, where_of}
 use Rattle.code_laws.specs.Steps.{Setting, machine_of, on_step, placed}
@@ -115,7 +115,7 @@ module _ (x : Setting) (params slots : ℕ) (fit : SlotsFit x slots) {deep : ℕ
 
   -- where the operation's instruction takes the region that is divided, the partition, and the field's region
   mapped_runs : (sets : List ℕ → List (List ℕ) → List ℕ → List ℤ → Bool → List (List ℕ)) (flag : Bool → Bool) → IsMapping sets flag →
-      (asks : RegionValue → PartitionValue → RegionValue → Bool) (ins : Instr) → is_launch ins ≡ false → (e : Bool) (h : Here) (n p r f : Name) (own : ℕ) (s : State) (pc : ℕ)
+      (asks : RegionValue → PartitionValue → RegionValue → Bool) (ins : Instr) → is_issue ins ≡ false → (e : Bool) (h : Here) (n p r f : Name) (own : ℕ) (s : State) (pc : ℕ)
       (i : Instance) → IsParent (where_of params h) n → IsScanned x.forms (where_of params h) r f →
       (a : NamedRegion x params slots fit aside h (bound_to h.scope.names n) s i) (q : NamedPartition x params slots fit aside h p s i)
       (b : NamedRegion x params slots fit aside h (bound_to h.scope.names r) s i) → Agrees x params slots aside h s i →

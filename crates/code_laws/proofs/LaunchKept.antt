@@ -244,7 +244,7 @@ module _ (x : Setting) (params slots : ℕ) (fit : SlotsFit x slots) (aside : As
     pub below : (k : ℕ) → k < kept within q → get_or slots_then k blank ≡ get_or j.frame.slots k blank
     pub are_kept : AreKept s.names j.contents j.frame.own slots_then q ts ps es
 
-  kept_is : (q : ℕ) → params ≤ length h.scope.names → spare (where_of params h) (3 + q) ≡ kept within q
+  kept_is : (q : ℕ) → params ≤ length h.scope.names → spare (where_of params h) (1 + q) ≡ kept within q
   kept_is q low = omega (arith, low)
 
   module _ (t1 : StaticType) (wanted : List StaticType) (low : params ≤ length h.scope.names) where
@@ -290,7 +290,7 @@ module _ (x : Setting) (params slots : ℕ) (fit : SlotsFit x slots) (aside : As
             let room : put < length j.frame.slots = omega (arith, fit pc1 _ f0.1.1, g.slots_are) in
             let j1 = in_slots (slice_set j.frame.slots put m) j in
             let g1 : Agrees x params slots aside h s j1 = subst (λ n. Agrees x params slots aside h s (in_slots (slice_set j.frame.slots n m) j)) (kept_is q low)
-            (spare_stored x params slots fit aside h s j (3 + q) m low (omega arith) (ready_value j.contents one.has) g) in
+            (spare_stored x params slots fit aside h s j (1 + q) m low (omega arith) (ready_value j.contents one.has) g) in
             let rest = more (suc pc1) j1 g1 f1 in record {
               slots_then = rest.slots_then;
               leads = leads_twice x one.leads (leads_twice x (stores x params slots fit put pc1 line m [] j g.slots_are f0.1.1) rest.leads);

@@ -74,7 +74,6 @@ pub mod PartVariables
 pub mod Differences
 pub mod Begun
 pub mod Statements
-pub mod Segments
 pub mod Tasks
 pub mod Top
 pub mod Typing
@@ -154,3 +153,5 @@ pub mod LaunchRounds
 pub mod LaunchRuns
 pub mod LaunchFollowed
 pub mod LaunchExample
+pub mod EagerRuns
+pub mod KeptCalls

@@ -43,7 +43,7 @@ use Rattle.task_code.specs.declared.code.Line.{Line}
 use Rattle.machine_terms.specs.Jumps.{fetch}
 use Rattle.code_rules.specs.Slots.{slot, slot_named}
 use Rattle.code_rules.specs.Instructions.{converted_code, signs_code, standing_code, operand_code, computing, comparing, operating, one, as_number_code}
-use Rattle.machine_terms.proofs.StepKinds.{is_launch}
+use Rattle.code_laws.specs.Steps.{is_issue}
 use Rattle.code_laws.specs.Steps.{Setting, machine_of, placed, on_step, Leads}
 use Rattle.code_laws.specs.Standing.{Stands, machine_value, IsOf, of_index, of_integer, of_space, of_truth, nothing, blank, Aside, SlotsFit, where_of, Agrees, Comes}
 use Rattle.code_laws.specs.Simple.{AreComparable, compare_numbers, compare_truths, IsNumber, number_index, number_integer, IsInteger, an_integer, IsTruth, a_truth_type, AreAlike, two_integers, two_truths, IsScalar, scalar_integer, scalar_truth, SignsFit, of_a_truth, of_an_integer, not_before, minus_before, IsIntegerTerm, term_32, term_64}
@@ -64,7 +64,7 @@ module _ (x : Setting) (params slots : ℕ) (fit : SlotsFit x slots) {deep : ℕ
   -- ---- arithmetic
 
   pub divided_runs : (h : Here) (w : Width) (t : StaticType) (made : ℤ → Value) (s : State) (pc : ℕ)
-      (before st : List MachineValue) (i : Instance) (ins : Instr) (line : ℕ) → is_launch ins ≡ false →
+      (before st : List MachineValue) (i : Instance) (ins : Instr) (line : ℕ) → is_issue ins ≡ false →
       ((z : ℤ) → FitsWidth w z → IsOf t (made z)) → ((z : ℤ) → machine_value i.contents (made z) ≡ machine.Number z) →
       h.line ≡ line → Stands x.body pc (op ins line) →
       Agrees x params slots aside h s i → (r : Option ℤ) → ((z : ℤ) → r ≡ Some z → FitsWidth w z) →

@@ -34,7 +34,7 @@ use Rattle.machine_terms.specs.declared.value.RegionValue.{RegionValue}
 use Rattle.memory_laws.specs.Places.{number_at}
 use Rattle.code_rules.specs.Pieces.{op}
 use Rattle.code_rules.specs.Slots.{slot_bound, slot_named}
-use Rattle.machine_terms.proofs.StepKinds.{is_launch}
+use Rattle.code_laws.specs.Steps.{is_issue}
 use Rattle.code_laws.specs.Arguments.{ArePaired, IsCutName}
 use Rattle.code_laws.specs.Pointers.{IsCut}
 use Rattle.code_laws.specs.Simple.{IsPartition, a_partition_type}
@@ -136,7 +136,7 @@ module _ (x : Setting) (params slots : ℕ) (fit : SlotsFit x slots) {deep : ℕ
 
   -- where the operation's instruction takes the two, and the region
   pair_runs : (sets : List (List ℕ) → List (List ℕ) → List (List ℕ)) (flag : Bool → Bool → Bool) → IsSetOperation sets flag →
-      (ins : Instr) → is_launch ins ≡ false → (e : Bool) (h : Here) (p q : Name) (own : ℕ) (s : State) (pc : ℕ) (i : Instance) → ArePaired (where_of params h) p q →
+      (ins : Instr) → is_issue ins ≡ false → (e : Bool) (h : Here) (p q : Name) (own : ℕ) (s : State) (pc : ℕ) (i : Instance) → ArePaired (where_of params h) p q →
       Agrees x params slots aside h s i → Stands x.body pc (op ins h.line) → suc pc < 2 ^ 32 →
       (slot_named (where_of params h) p < slots) × (slot_named (where_of params h) q < slots)
       × (slot_bound (where_of params h) (parent_of (bound_to h.scope.names p).static_type) < slots) →

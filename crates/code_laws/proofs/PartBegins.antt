@@ -19,7 +19,7 @@ use Rattle.code_rules.specs.Expressions.{expr_code}
 use Rattle.code_rules.specs.Initializers.{new_place, plain_code}
 use Rattle.code_rules.specs.Pieces.{op, past}
 use Rattle.code_rules.specs.Slots.{Where, beside, slot, spare, typed}
-use Rattle.code_rules.specs.Statements.{form_code}
+use Rattle.code_rules.specs.Statements.{begun_form, form_code}
 use Rattle.code_laws.specs.Pointers.{IsOfPart, IsPointed}
 use Rattle.code_laws.specs.Standing.{Agrees, Aside, Does, IsInside, IsOf, SlotsFit, Stands, blank, machine_value, where_of}
 use Rattle.code_laws.specs.Steps.{Setting, placed}
@@ -58,9 +58,9 @@ part_pointed bs names _ _ _ m q (a_part_pointer k sp args own c) lies = (lies, t
 module _ (x : Setting) (params slots : ℕ) (fit : SlotsFit x slots) (counts : CountsDown) where
   element_begins : (aside : Aside 0) (h : Here) (n p : Name) (e i : Expression) (s : State) (pc : ℕ) (j0 : Instance) → params ≤ length h.scope.names →
       IsTyped x.forms (where_of params h) (access_expr p (at_step e (at_step i no_step))) → Agrees x params slots aside h s j0 →
-      Stands x.body pc (form_code (where_of params h) (var_form n None (Some (plain_initializer (access_expr p (at_step e (at_step i no_step))))))) →
+      Stands x.body pc (begun_form (where_of params h) None (Some (plain_initializer (access_expr p (at_step e (at_step i no_step)))))) →
       Does x params slots aside (placed pc [] j0)
-      (past (form_code (where_of params h) (var_form n None (Some (plain_initializer (access_expr p (at_step e (at_step i no_step))))))) pc)
+      (past (begun_form (where_of params h) None (Some (plain_initializer (access_expr p (at_step e (at_step i no_step)))))) pc)
       (after_statement h (var_form n None (Some (plain_initializer (access_expr p (at_step e (at_step i no_step)))))))
       (exec h (var_form n None (Some (plain_initializer (access_expr p (at_step e (at_step i no_step)))))) s)
   element_begins aside h n p e i s pc j0 low fine g f =
@@ -99,8 +99,8 @@ module _ (x : Setting) (params slots : ℕ) (fit : SlotsFit x slots) (counts : C
   -- `var n = p[e][i]`
   pub part_element_begins : (aside : Aside 0) (h : Here) (n : Name) (y : Expression) (s : State) (pc : ℕ) (j0 : Instance) → params ≤ length h.scope.names →
       IsPartElement y → IsTyped x.forms (where_of params h) y → Agrees x params slots aside h s j0 →
-      Stands x.body pc (form_code (where_of params h) (var_form n None (Some (plain_initializer y)))) →
-      Does x params slots aside (placed pc [] j0) (past (form_code (where_of params h) (var_form n None (Some (plain_initializer y)))) pc)
+      Stands x.body pc (begun_form (where_of params h) None (Some (plain_initializer y))) →
+      Does x params slots aside (placed pc [] j0) (past (begun_form (where_of params h) None (Some (plain_initializer y))) pc)
       (after_statement h (var_form n None (Some (plain_initializer y)))) (exec h (var_form n None (Some (plain_initializer y))) s)
   part_element_begins aside h n (access_expr p (at_step e (at_step i no_step))) s pc j0 low is fine g f = element_begins aside h n p e i s pc j0 low fine g f
   part_element_begins aside h n _ s pc j0 low is fine g f = absurd is

@@ -26,7 +26,7 @@ use Rattle.code_rules.specs.Expressions.{expr_code}
 use Rattle.code_rules.specs.Initializers.{initializer_code, new_place, plain_code, written_code}
 use Rattle.code_rules.specs.Pieces.{empty, op, past, ◌⨟◌}
 use Rattle.code_rules.specs.Slots.{slot, typed}
-use Rattle.code_rules.specs.Statements.{form_code}
+use Rattle.code_rules.specs.Statements.{begun_form, form_code}
 use Rattle.code_laws.specs.Pointers.{BeginsWith, IsLike, IsPointed, like_region}
 use Rattle.code_laws.specs.Standing.{Agrees, Aside, Comes, Does, IsInside, IsOf, IsUnder, IsUnderName, LiesIn, SlotsFit, Stands, of_region, where_of}
 use Rattle.code_laws.specs.Steps.{Setting, Taking, placed}
@@ -167,8 +167,8 @@ module _ (x : Setting) (params slots : ℕ) (fit : SlotsFit x slots) (counts : C
   -- `var n = q[e]`
   pub piece_begins : (aside : Aside 0) (h : Here) (n : Name) (e : Expression) (s : State) (pc : ℕ) (i : Instance) → params ≤ length h.scope.names →
       BeginsAsPart x.forms.takes (where_of params h) e (IsIndexed x.forms (where_of params h) e) → Agrees x params slots aside h s i →
-      Stands x.body pc (form_code (where_of params h) (var_form n None (Some (plain_initializer e)))) →
-      Does x params slots aside (placed pc [] i) (past (form_code (where_of params h) (var_form n None (Some (plain_initializer e)))) pc)
+      Stands x.body pc (begun_form (where_of params h) None (Some (plain_initializer e))) →
+      Does x params slots aside (placed pc [] i) (past (begun_form (where_of params h) None (Some (plain_initializer e))) pc)
       (after_statement h (var_form n None (Some (plain_initializer e)))) (exec h (var_form n None (Some (plain_initializer e))) s)
   piece_begins aside h n (access_expr q (at_step e no_step)) s pc i low part g f =
       let w = where_of params h in
@@ -182,8 +182,8 @@ module _ (x : Setting) (params slots : ℕ) (fit : SlotsFit x slots) (counts : C
   piece_said : (aside : Aside 0) (h : Here) (n : Name) (t : TypeTerm) (e : Expression) (s : State) (pc : ℕ) (i : Instance) → params ≤ length h.scope.names →
       BeginsAsPart x.forms.takes (where_of params h) e (IsIndexed x.forms (where_of params h) e) →
       IsLike (var_type h.tree h.scope (Some t) (Some (plain_initializer e))) (initializer_type h.tree h.scope h.scope.next (plain_initializer e)) →
-      Agrees x params slots aside h s i → Stands x.body pc (form_code (where_of params h) (var_form n (Some t) (Some (plain_initializer e)))) →
-      Does x params slots aside (placed pc [] i) (past (form_code (where_of params h) (var_form n (Some t) (Some (plain_initializer e)))) pc)
+      Agrees x params slots aside h s i → Stands x.body pc (begun_form (where_of params h) (Some t) (Some (plain_initializer e))) →
+      Does x params slots aside (placed pc [] i) (past (begun_form (where_of params h) (Some t) (Some (plain_initializer e))) pc)
       (after_statement h (var_form n (Some t) (Some (plain_initializer e)))) (exec h (var_form n (Some t) (Some (plain_initializer e))) s)
   piece_said aside h n t (access_expr q (at_step e no_step)) s pc i low part like g f =
       let w = where_of params h in
@@ -202,8 +202,8 @@ module _ (x : Setting) (params slots : ℕ) (fit : SlotsFit x slots) (counts : C
   -- `var n = e`, of whatever e gives
   pub plain_begins : (aside : Aside 0) (h : Here) (n : Name) (e : Expression) (s : State) (pc : ℕ) (i : Instance) → params ≤ length h.scope.names →
       IsTypedForm x.forms (where_of params h) (var_form n None (Some (plain_initializer e))) → Agrees x params slots aside h s i →
-      Stands x.body pc (form_code (where_of params h) (var_form n None (Some (plain_initializer e)))) →
-      Does x params slots aside (placed pc [] i) (past (form_code (where_of params h) (var_form n None (Some (plain_initializer e)))) pc)
+      Stands x.body pc (begun_form (where_of params h) None (Some (plain_initializer e))) →
+      Does x params slots aside (placed pc [] i) (past (begun_form (where_of params h) None (Some (plain_initializer e))) pc)
       (after_statement h (var_form n None (Some (plain_initializer e)))) (exec h (var_form n None (Some (plain_initializer e))) s)
   plain_begins aside h n e s pc i low fine g f =
       let w = where_of params h in
@@ -215,8 +215,8 @@ module _ (x : Setting) (params slots : ℕ) (fit : SlotsFit x slots) (counts : C
   -- `var n : t = e`
   pub said_begins : (aside : Aside 0) (h : Here) (n : Name) (t : TypeTerm) (e : Expression) (s : State) (pc : ℕ) (i : Instance) → params ≤ length h.scope.names →
       IsTypedForm x.forms (where_of params h) (var_form n (Some t) (Some (plain_initializer e))) → Agrees x params slots aside h s i →
-      Stands x.body pc (form_code (where_of params h) (var_form n (Some t) (Some (plain_initializer e)))) →
-      Does x params slots aside (placed pc [] i) (past (form_code (where_of params h) (var_form n (Some t) (Some (plain_initializer e)))) pc)
+      Stands x.body pc (begun_form (where_of params h) (Some t) (Some (plain_initializer e))) →
+      Does x params slots aside (placed pc [] i) (past (begun_form (where_of params h) (Some t) (Some (plain_initializer e))) pc)
       (after_statement h (var_form n (Some t) (Some (plain_initializer e)))) (exec h (var_form n (Some t) (Some (plain_initializer e))) s)
   said_begins aside h n t e s pc i low fine g f =
       let w = where_of params h in

@@ -24,7 +24,7 @@ use Rattle.code_rules.specs.Initializers.{beside_code, new_place, plain_code, ze
 use Rattle.code_rules.specs.Instructions.{converted_code, one}
 use Rattle.code_rules.specs.Pieces.{Piece, empty, op, past, ◌⨟◌}
 use Rattle.code_rules.specs.Slots.{beside, slot, typed, Where, bound}
-use Rattle.code_rules.specs.Statements.{form_code}
+use Rattle.code_rules.specs.Statements.{begun_form, form_code}
 use Rattle.code_laws.specs.Pointers.{AreThere, Begins, BeginsItself, IsPointed, IsPointer, IsWritten, a_pointer_type, begins_plain, begins_pointer, itself_null, itself_plain}
 use Rattle.code_laws.specs.Simple.{IsRegion, IsSimple, a_region_type}
 use Rattle.code_laws.specs.Standing.{AreOf, Agrees, Aside, Does, IsInside, IsOf, SlotsFit, Stands, nothing, of_pointer, where_of, GoesToPart, blank, machine_value}
@@ -138,8 +138,8 @@ module _ (x : Setting) (params slots : ℕ) (fit : SlotsFit x slots) (counts : C
   pointer_begins : (aside : Aside 0) (h : Here) (n : Name) (e : Expression) (s : State) (pc : ℕ) (i : Instance) → params ≤ length h.scope.names →
       IsPointer (typed (where_of params h) e) → HasNoPart (typed (where_of params h) e) → IsPointing (where_of params h) e → IsTyped x.forms (where_of params h) e →
       Agrees x params slots aside h s i →
-      Stands x.body pc (form_code (where_of params h) (var_form n None (Some (plain_initializer e)))) →
-      FormDoes (past (form_code (where_of params h) (var_form n None (Some (plain_initializer e)))) pc) aside h
+      Stands x.body pc (begun_form (where_of params h) None (Some (plain_initializer e))) →
+      FormDoes (past (begun_form (where_of params h) None (Some (plain_initializer e))) pc) aside h
       (var_form n None (Some (plain_initializer e))) s pc i
   pointer_begins aside h n e s pc i low p none at fine g f =
       let w = where_of params h in
@@ -166,8 +166,8 @@ module _ (x : Setting) (params slots : ℕ) (fit : SlotsFit x slots) (counts : C
   other_begins : (aside : Aside 0) (h : Here) (n m : Name) (s : State) (pc : ℕ) (i : Instance) → params ≤ length h.scope.names →
       is_bound h.scope.names m ≡ true → Falls h.scope.next h.scope.names → (t : StaticType) → (bound_to h.scope.names m).static_type ≡ t → IsPointer t → HasNoPart t →
       IsTyped x.forms (where_of params h) (access_expr m no_step) → Agrees x params slots aside h s i →
-      Stands x.body pc (form_code (where_of params h) (var_form n None (Some (plain_initializer (access_expr m no_step))))) →
-      FormDoes (past (form_code (where_of params h) (var_form n None (Some (plain_initializer (access_expr m no_step))))) pc) aside h
+      Stands x.body pc (begun_form (where_of params h) None (Some (plain_initializer (access_expr m no_step)))) →
+      FormDoes (past (begun_form (where_of params h) None (Some (plain_initializer (access_expr m no_step)))) pc) aside h
       (var_form n None (Some (plain_initializer (access_expr m no_step)))) s pc i
   other_begins aside h n m s pc i low there falls t is p none fine g f =
       pointer_begins aside h n (access_expr m no_step) s pc i low (subst IsPointer (sym is) p) (subst HasNoPart (sym is) none) falls fine g f
@@ -176,8 +176,8 @@ module _ (x : Setting) (params slots : ℕ) (fit : SlotsFit x slots) (counts : C
   part_begins : (aside : Aside 0) (h : Here) (n m : Name) (s : State) (pc : ℕ) (i : Instance) → params ≤ length h.scope.names →
       is_bound h.scope.names m ≡ true → Falls h.scope.next h.scope.names → (k : Kind) (sp : ℕ) (args : List Reach) (p : ℕ) (c : Colour) →
       (bound_to h.scope.names m).static_type ≡ pointer_type k sp args (Some (term.Child p c) ∷ []) → Agrees x params slots aside h s i →
-      Stands x.body pc (form_code (where_of params h) (var_form n None (Some (plain_initializer (access_expr m no_step))))) →
-      FormDoes (past (form_code (where_of params h) (var_form n None (Some (plain_initializer (access_expr m no_step))))) pc) aside h
+      Stands x.body pc (begun_form (where_of params h) None (Some (plain_initializer (access_expr m no_step)))) →
+      FormDoes (past (begun_form (where_of params h) None (Some (plain_initializer (access_expr m no_step)))) pc) aside h
       (var_form n None (Some (plain_initializer (access_expr m no_step)))) s pc i
   part_begins aside h n m s pc i low there falls kind sp args p c is g f =
       let w = where_of params h in
@@ -226,8 +226,8 @@ module _ (x : Setting) (params slots : ℕ) (fit : SlotsFit x slots) (counts : C
   name_begins : (aside : Aside 0) (h : Here) (n m : Name) (s : State) (pc : ℕ) (i : Instance) → params ≤ length h.scope.names →
       is_bound h.scope.names m ≡ true → Falls h.scope.next h.scope.names → (t : StaticType) → (bound_to h.scope.names m).static_type ≡ t → IsPointer t →
       IsTyped x.forms (where_of params h) (access_expr m no_step) → Agrees x params slots aside h s i →
-      Stands x.body pc (form_code (where_of params h) (var_form n None (Some (plain_initializer (access_expr m no_step))))) →
-      FormDoes (past (form_code (where_of params h) (var_form n None (Some (plain_initializer (access_expr m no_step))))) pc) aside h
+      Stands x.body pc (begun_form (where_of params h) None (Some (plain_initializer (access_expr m no_step)))) →
+      FormDoes (past (begun_form (where_of params h) None (Some (plain_initializer (access_expr m no_step)))) pc) aside h
       (var_form n None (Some (plain_initializer (access_expr m no_step)))) s pc i
   name_begins aside h n m s pc i low there falls _ is (a_pointer_type k sp args (Some (term.Child p c) ∷ []) names) fine g f =
       part_begins aside h n m s pc i low there falls k sp args p c is g f
@@ -244,8 +244,8 @@ module _ (x : Setting) (params slots : ℕ) (fit : SlotsFit x slots) (counts : C
       params ≤ length h.scope.names → IsSimple (typed (where_of params h) e)
       ⊎ (IsPointer (typed (where_of params h) e) × (IsPointing (where_of params h) e ⊎ IsPartElement e)) →
       IsTyped x.forms (where_of params h) e → Agrees x params slots aside h s i →
-      Stands x.body pc (form_code (where_of params h) (var_form n None (Some (plain_initializer e)))) →
-      Does x params slots aside (placed pc [] i) (past (form_code (where_of params h) (var_form n None (Some (plain_initializer e)))) pc)
+      Stands x.body pc (begun_form (where_of params h) None (Some (plain_initializer e))) →
+      Does x params slots aside (placed pc [] i) (past (begun_form (where_of params h) None (Some (plain_initializer e))) pc)
       (after_statement h (var_form n None (Some (plain_initializer e)))) (exec h (var_form n None (Some (plain_initializer e))) s)
   begins_run aside h n e s pc i low (inl simple) fine g f =
       let w = where_of params h in
@@ -269,8 +269,8 @@ module _ (x : Setting) (params slots : ℕ) (fit : SlotsFit x slots) (counts : C
       (λ at. ⊎_elim
       (λ none. pointer_begins aside h n e s pc i low p.0 none at fine g f)
       (λ m. subst (λ e. (IsTyped x.forms (where_of params h) e) → IsPointer (typed (where_of params h) e) → IsPointing (where_of params h) e →
-      Stands x.body pc (form_code (where_of params h) (var_form n None (Some (plain_initializer e)))) →
-      FormDoes (past (form_code (where_of params h) (var_form n None (Some (plain_initializer e)))) pc) aside h (var_form n None (Some (plain_initializer e))) s pc i)
+      Stands x.body pc (begun_form (where_of params h) None (Some (plain_initializer e))) →
+      FormDoes (past (begun_form (where_of params h) None (Some (plain_initializer e))) pc) aside h (var_form n None (Some (plain_initializer e))) s pc i)
       (sym m.1) (λ fine p falls f. name_begins aside h n m.0 s pc i low fine.0 falls (bound_to h.scope.names m.0).static_type refl p fine g f) fine p.0 at f)
       (pointing_part x.forms (where_of params h) e fine at))
       (λ is. part_element_begins x params slots fit counts aside h n e s pc i low is fine g f) p.1
@@ -326,8 +326,8 @@ module _ (x : Setting) (params slots : ℕ) (fit : SlotsFit x slots) (counts : C
       params ≤ length h.scope.names →
       Begins h.scope.names (typed (where_of params h) e) (var_type h.tree h.scope (Some t) (Some (plain_initializer e))) →
       IsTyped x.forms (where_of params h) e → Agrees x params slots aside h s i →
-      Stands x.body pc (form_code (where_of params h) (var_form n (Some t) (Some (plain_initializer e)))) →
-      FormDoes (past (form_code (where_of params h) (var_form n (Some t) (Some (plain_initializer e)))) pc) aside h
+      Stands x.body pc (begun_form (where_of params h) (Some t) (Some (plain_initializer e))) →
+      FormDoes (past (begun_form (where_of params h) (Some t) (Some (plain_initializer e))) pc) aside h
       (var_form n (Some t) (Some (plain_initializer e))) s pc i
   declares_run aside h n t e s pc i low begins fine g f =
       let w = where_of params h in
@@ -355,8 +355,8 @@ module _ (x : Setting) (params slots : ℕ) (fit : SlotsFit x slots) (counts : C
   -- `var n : t`
   pub itself_run : (aside : Aside 0) (h : Here) (n : Name) (t : TypeTerm) (s : State) (pc : ℕ) (i : Instance) → params ≤ length h.scope.names →
       BeginsItself h.scope.names (var_type h.tree h.scope (Some t) None) → Agrees x params slots aside h s i →
-      Stands x.body pc (form_code (where_of params h) (var_form n (Some t) None)) →
-      FormDoes (past (form_code (where_of params h) (var_form n (Some t) None)) pc) aside h (var_form n (Some t) None) s pc i
+      Stands x.body pc (begun_form (where_of params h) (Some t) None) →
+      FormDoes (past (begun_form (where_of params h) (Some t) None) pc) aside h (var_form n (Some t) None) s pc i
   itself_run aside h n t s pc i low (itself_plain _ zero) g f =
       let form = var_form n (Some t) None in
       let u = var_type h.tree h.scope (Some t) None in

@@ -15,9 +15,8 @@ use Rattle.machine_terms.specs.declared.order.Ended.TheVariants.{Broke}
 use Rattle.machine_terms.specs.declared.order.Instance.{Instance}
 use Rattle.machine_terms.specs.declared.order.Resumed.{Resumed}
 use Rattle.machine_terms.specs.declared.order.Resumed.TheVariants.{GoesOn, IsOver}
-use Rattle.machine_terms.proofs.StepKinds.{is_launch}
 use Rattle.code_rules.specs.Pieces.{line_of}
-use Rattle.code_laws.specs.Steps.{Setting, behind, behind_line, machine_of, on_step, run_steps, Leads, Ends}
+use Rattle.code_laws.specs.Steps.{Setting, is_issue, behind, behind_line, machine_of, on_step, run_steps, Leads, Ends}
 use Rattle.code_laws.specs.Standing.{Comes}
 use Rattle.code_laws.proofs.Growing.{goes_grow, more_none, more_twice}
 
@@ -65,17 +64,18 @@ module _ (x : Setting) where
         ∙ ap (λ r. until_over r (run_steps x k)) d;
   }
 
-  -- behind an instruction that is no launch no fault is due
-  pub behind_alone : (ins : Instr) → is_launch ins ≡ false → (r : Resumed) → behind ins r ≡ r
+  -- behind an instruction that is no launch no fault is due, and where it is no call nothing is told
+  pub behind_alone : (ins : Instr) → is_issue ins ≡ false → (r : Resumed) → behind ins r ≡ r
   behind_alone (instr.Launch task s line args) alone r = absurd (false≢true (sym alone))
+  behind_alone (instr.Call task n) alone r = absurd (false≢true (sym alone))
   behind_alone _ alone r = refl
 
-  pub leads_alone : (i j : Instance) (ins : Instr) (line : ℕ) → is_launch ins ≡ false →
+  pub leads_alone : (i j : Instance) (ins : Instr) (line : ℕ) → is_issue ins ≡ false →
       fetch x.body i.frame.pc ≡ Some (line_of ins line) →
       on_step x i (act x.code x.body ins line (machine_of i)) ≡ GoesOn j → Leads x i j
   leads_alone i j ins line alone f e = leads_by i j ins line f (behind_alone ins alone _ ∙ e)
 
-  pub ends_alone : (i : Instance) (e : Ended) (ins : Instr) (line : ℕ) → is_launch ins ≡ false →
+  pub ends_alone : (i : Instance) (e : Ended) (ins : Instr) (line : ℕ) → is_issue ins ≡ false →
       fetch x.body i.frame.pc ≡ Some (line_of ins line) →
       on_step x i (act x.code x.body ins line (machine_of i)) ≡ IsOver e → Ends x i e
   ends_alone i e ins line alone f d = ends_by i e ins line f (behind_alone ins alone _ ∙ d)

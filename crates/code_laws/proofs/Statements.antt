@@ -30,11 +30,12 @@ use Rattle.task_code.specs.declared.instr.Instr.TheVariants as instr
 use Rattle.regent_tree.specs.Numbers.{distance}
 use Rattle.machine_terms.specs.declared.value.Value.TheVariants as machine
 use Rattle.machine_terms.specs.declared.order.Instance.{Instance}
-use Rattle.code_rules.specs.Pieces.{Piece, op, past}
-use Rattle.code_rules.specs.Slots.{typed, counter, beside}
+use Rattle.code_rules.specs.Pieces.{Piece, ◌⨟◌, op, past}
+use Rattle.code_rules.specs.Slots.{typed, slot_named, counter, beside}
 use Rattle.code_rules.specs.Expressions.{expr_code, exprs_code, count}
-use Rattle.code_rules.specs.Statements.{form_code, arms_code, else_code, block_code}
-use Rattle.code_rules.specs.Assignments.{right_code}
+use Rattle.code_rules.specs.Statements.{put_call, form_code, arms_code, else_code, block_code}
+use Rattle.code_rules.specs.Assignments.{right_code, target_code}
+use Rattle.code_rules.proofs.KeptCalls.{assigned_either}
 use Rattle.code_laws.specs.Steps.{Setting, placed}
 use Rattle.code_laws.specs.Standing.{Stands, machine_value, blank, Aside, where_of, Agrees, SlotsFit, Does}
 use Rattle.code_laws.specs.Pointers.{HasZero}
@@ -52,7 +53,7 @@ use Rattle.regent_tree.specs.StaticTypes.{task_named}
 use Rattle.code_laws.proofs.PrintRuns.{values_run, prints}
 use Rattle.code_laws.proofs.Names.{form_grown, block_grown, arms_names, else_names}
 use Rattle.code_laws.proofs.States.{aside_stored, ready_value, stored, stores}
-use Rattle.code_laws.proofs.PartVariables.{plain_begins, said_begins}
+use Rattle.code_laws.proofs.KeptCalls.{begins_or_calls, call_assigned_runs, said_or_calls}
 
 module _ (x : Setting) (params slots : ℕ) (fit : SlotsFit x slots) (counts : CountsDown) where
   -- ---- statements
@@ -64,23 +65,28 @@ module _ (x : Setting) (params slots : ℕ) (fit : SlotsFit x slots) (counts : C
         Does x params slots aside (placed pc [] i) (past (form_code (where_of params h) form) pc)
         (after_statement h form) (exec h form s)
     form_runs aside h (var_form n None (Some (plain_initializer e))) s pc i low fine g f =
-        plain_begins x params slots fit counts aside h n e s pc i low fine g f
+        begins_or_calls x params slots fit counts aside h n e s pc i low fine g f
     form_runs aside h (var_form n (Some t) (Some (plain_initializer e))) s pc i low fine g f =
-        said_begins x params slots fit counts aside h n t e s pc i low fine g f
+        said_or_calls x params slots fit counts aside h n t e s pc i low fine g f
     form_runs aside h (var_form n (Some t) None) s pc i low fine g f =
         itself_run x params slots fit counts aside h n t s pc i low (zeroed x.forms.keeps h.scope.names _ fine) g f
     form_runs aside h (assign_form n no_step how.Set e) s pc i low fine g f =
         let w = where_of params h in
         let t = typed w e in
         let u = (bound_to h.scope.names n).static_type in
-        let done = past (form_code w (assign_form n no_step how.Set e)) pc in
+        let set = right_code w n no_step how.Set e ⨟ target_code w n no_step how.Set in
         let into = assigned x.forms.keeps t u fine.0 in
-        then x (does_said x params slots fit counts aside done h) (valued (past (right_code w n no_step how.Set e) pc) [])
+        assigned_either (λ p. Stands x.body pc p → Does x params slots aside (placed pc [] i) (past p pc) h (exec h (assign_form n no_step how.Set e) s))
+        w (slot_named w n) set
+        (λ f. then x (does_said x params slots fit counts aside (past set pc) h) (valued (past (right_code w n no_step how.Set e) pc) [])
         (Good x params slots fit aside h u) _ (right_side h n no_step how.Set e s) _
         (then x (comes_said x _ _) _ _ _ (value h e s) _
         (value_runs x params slots fit aside h 0 low e s pc [] i fine.1 g f.0.0)
         (λ v s1 j k. assigned_runs x params slots fit aside h t u [] v s1 _ [] j into k.0 k.1 f.0.1))
-        (λ v s1 j k. assigns x params slots fit counts aside h n t v s1 _ j into k.0 fine.2 fine.3 k.1 f.1)
+        (λ v s1 j k. assigns x params slots fit counts aside h n t v s1 _ j into k.0 fine.2 fine.3 k.1 f.1)) n no_step how.Set e
+        (λ task args is keeps still. subst (λ e. IsTypedForm x.forms w (assign_form n no_step how.Set e) → Stands x.body pc (put_call w (slot_named w n) task args) →
+        Does x params slots aside (placed pc [] i) (past (put_call w (slot_named w n) task args) pc) h (exec h (assign_form n no_step how.Set e) s)) (sym is)
+        (λ fine. call_assigned_runs x params slots fit counts aside h n task args s pc i low keeps fine g) fine) f
     form_runs aside h (assign_form n no_step (how.Reduce o) e) s pc i low fine g f =
         let w = where_of params h in
         let t = typed w e in

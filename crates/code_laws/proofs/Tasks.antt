@@ -51,7 +51,7 @@ use Rattle.code_laws.specs.Handing.{AreTypedBy, forms_by, takes_by, taking_of}
 use Rattle.code_laws.specs.Pointers.{HasZero, given_pointed, zero_index, zero_scalar}
 use Rattle.code_laws.specs.Programs.{IsGiven, called_setting, gives_index, gives_nothing, gives_scalar}
 use Rattle.code_laws.specs.Simple.{IsRegion, a_region_type, scalar_integer, scalar_truth, term_in}
-use Rattle.code_laws.specs.Standing.{AreFollowed, Answering, AreTaken, AreUnder, Does, IsFramed, IsInside, IsOf, IsTaken, LiesIn, Matches, Returns, Stands, Takes, back, both_back, both_broke, called_with, of_index, of_integer, of_partition, of_pointer, of_region, of_truth, takes_partition, takes_pointer, takes_region, takes_value}
+use Rattle.code_laws.specs.Standing.{AreFollowed, Answering, AreTaken, AreUnder, Does, IsFramed, IsInside, IsOf, IsTaken, LiesIn, Matches, machine_value, Returns, Stands, Takes, back, both_back, both_broke, called_with, of_index, of_integer, of_partition, of_pointer, of_region, of_truth, takes_partition, takes_pointer, takes_region, takes_value}
 use Rattle.code_laws.specs.Steps.{Ends, Setting, Taking, placed}
 use Rattle.code_laws.specs.Taking.{AreParts, IsGivenAs, IsHadBy, IsSubregion, given_region, needs_taken, pairs_in, pairs_taken, up_itself}
 use Rattle.code_laws.proofs.Under.{sub_itself}
@@ -63,7 +63,9 @@ use Rattle.code_laws.proofs.Requiring.{asked_covered}
 use Rattle.code_laws.proofs.LaunchFollowed.{launches_followed}
 use Rattle.code_laws.proofs.Places.{stands_alone}
 use Rattle.code_laws.proofs.Runs.{ends_by, leads_end}
-use Rattle.code_laws.proofs.Segments.{segments_give}
+use Rattle.code_laws.proofs.EagerRuns.{match_whole, eager_gives, values_settled}
+use Rattle.tidy_code.specs.Results.{is_result}
+use Rattle.tidy_code.proofs.Statements.{bodies_tidy}
 use Rattle.code_laws.proofs.Statements.{block_runs}
 use Rattle.code_laws.proofs.Values.{simple_inside}
 use Rattle.code_laws.proofs.Besides.{params_beside}
@@ -302,12 +304,9 @@ module _ (handing keeping : Bool) (tree : Tree) (turns : ℕ) (few : turns < 2 ^
       (block_runs x (length t.params) code.slots (fits_slots x tree t refl) counts_down
       (before_all turns) h t.body (opening tree turns t vs store) 0 i low task_is.typed g stands.0) stands.1 same in
       let ran : runs (code_of tree) turns (suc more) i ≡ done.0 =
-      segments_give x code done.0 i (record {
-        task = code_there tree task takes_it.there;
-        body = refl;
-        slots = eq-eqb (length i.frame.slots) code.slots g.slots_are;
-        later = refl;
-      }) done.1 in
+      eager_gives x (is_result (length t.params)) (bodies_tidy tree t task_is.small) code turns depth (place_of_task tree task) (map (machine_value c) vs)
+      takes_it.needs c (values_settled c vs) (code_there tree task takes_it.there) refl (eq-eqb (length i.frame.slots) code.slots g.slots_are) done.0
+      (match_whole tree (code_of tree) (Returns tree task) store (numbers c) (meant_by task store r) done.0 done.2) done.1 in
       subst (Matches tree (code_of tree) (Returns tree task) store (numbers c) (meant_by task store r)) (sym ran) done.2
 
   -- calls are answered at each depth

@@ -1,6 +1,6 @@
 -- The run in order of a program over scalars is what the program means.
 use Rattle.std.proofs.Common.{◌≡◌, ℕ, ◌≤◌, ◌<◌, ◌^◌, ℤ, List, [], ◌∷◌, ◌++◌, Bool, true, false, refl, sym, ap, ◌∙◌, arith, subst}
-use Rattle.std.specs.Prelude.{cond, length, map, nat_le, ◌==◌, ◌&&◌}
+use Rattle.std.specs.Prelude.{None, cond, length, map, nat_le, ◌==◌, ◌&&◌}
 use Rattle.std.proofs.lemmas.Bool.{and_parts, le-leb, eq-eqb}
 use Rattle.regent_tree.specs.Execution.{Going, goes_on, returned}
 use Rattle.regent_tree.specs.Meaning.{body_of, calls_at, entered, inputs_of, meaning, opening, outcome}
@@ -55,7 +55,10 @@ use Rattle.code_laws.proofs.Pointing.{IsNoRegion, IsPlain, all_plain}
 use Rattle.code_laws.proofs.Under.{none_under}
 use Rattle.code_laws.proofs.Entering.{plain_entered}
 use Rattle.code_laws.proofs.Runs.{ends_by, leads_end}
-use Rattle.code_laws.proofs.Segments.{segments_give}
+use Rattle.eager_laws.specs.Laws.{IsWhole}
+use Rattle.code_laws.proofs.EagerRuns.{back_whole, fault_whole, eager_gives, values_settled}
+use Rattle.tidy_code.specs.Results.{is_result}
+use Rattle.tidy_code.proofs.Statements.{bodies_tidy}
 use Rattle.code_laws.proofs.Statements.{block_runs}
 use Rattle.code_laws.proofs.Besides.{plain_beside}
 
@@ -122,7 +125,7 @@ module _ (forms : Forms) (tree : Tree) (turns : ℕ) (t : TaskTree) where
       (past (block_code (place_of tree t) t.body) 0)
       (record (body_of tree (calls_at tree turns 63) t) { scope = scope_after_block tree (scope_of tree t) t.body }) r →
       Stands (task_code tree t).body (past (block_code (place_of tree t) t.body) 0) (op instr.Return 0) →
-      (e : Ended) × Ends x i e × IsTold r e
+      (e : Ended) × Ends x i e × IsTold r e × IsWhole e
   by_end i (gives goes_on s) d f =
       let k = placed (past (block_code (place_of tree t) t.body) 0) [] d.0 in (
         _,
@@ -133,6 +136,7 @@ module _ (forms : Forms) (tree : Tree) (turns : ℕ) (t : TaskTree) where
           λ m. no_roots x s d.0 refl m d.2.memory d.2.framed,
           all_shaped (code_of tree).spaces s.store d.2.framed.shaped,
         ),
+        back_whole None k.frame.own (give_parts k.parts k.contents) k.text,
       )
   by_end i (gives (returned v) s) d f = (
     _,
@@ -143,8 +147,9 @@ module _ (forms : Forms) (tree : Tree) (turns : ℕ) (t : TaskTree) where
       λ m. no_roots x s d.1 refl m d.5 d.6,
       all_shaped (code_of tree).spaces s.store d.6.shaped,
     ),
+    back_whole d.0 d.1.frame.own (give_parts d.1.parts d.1.contents) d.1.text,
   )
-  by_end i (fails k s) d f = (_, d, (refl, λ m. tt, refl))
+  by_end i (fails k s) d f = (_, d, (refl, λ m. tt, refl), fault_whole k s.text)
 
 -- nothing is asked of the first task's arguments
 nothing_asked : (n : NeedCode) (u : Touch) → is_asked [] n u ≡ true → ⊥
@@ -187,7 +192,8 @@ typed_run_ends forms tree inputs turns answers p =
     (before_all turns) h t.body (opening tree turns t vs []) 0 i low p.typed g stands.0) stands.1 in
     let many : (length i.frame.slots == code.slots) ≡ true = eq-eqb (length i.frame.slots) code.slots g.slots_are in
     let ran : runs (code_of tree) turns 64 i ≡ done.0 =
-    segments_give x code done.0 i (record { task = p.start; body = refl; slots = many; later = refl }) done.1 in
+    eager_gives x (is_result (length t.params)) (bodies_tidy tree t p.small) code turns 1 place (map (machine_value no_contents) vs) [] no_contents
+    (values_settled no_contents vs) p.start refl many done.0 done.3 done.1 in
     let begins : may_start job code ≡ true =
     ap (λ ns. (length ns == 0) && (length inputs == length t.params) && nat_le (length t.params) code.slots) p.needs
     ∙ ap (λ b. b && nat_le (length t.params) code.slots) (eq-eqb (length inputs) (length t.params) p.count)

@@ -31,7 +31,7 @@ use Rattle.memory_laws.specs.Touches.{Covers, IsCovered, changed}
 use Rattle.memory_laws.proofs.Fetched.{fetched_holds}
 use Rattle.memory_laws.proofs.Finding.{allowed_is_written, covered_is_found, fetched_is_found, root_is_there}
 use Rattle.memory_laws.proofs.Touching.{found_is_read, set_cells_hold}
-use Rattle.machine_terms.proofs.StepKinds.{is_launch}
+use Rattle.code_laws.specs.Steps.{is_issue}
 use Rattle.code_laws.specs.Steps.{Setting, machine_of, placed, on_step, Leads}
 use Rattle.code_laws.specs.Standing.{Stands}
 use Rattle.code_laws.proofs.Runs.{leads_alone, leads_by, leads_twice}
@@ -70,7 +70,7 @@ module _ (x : Setting) where
   -- Where the part is there: a touch is made. An instruction that wants its part runs again behind the
   -- fetch.
   pub touches : (i : Instance) (pc line place f n : ℕ) (st : List Value) (ins : Instr) (a : Mode) (store : Store)
-      (T : Instance → Type 0) → is_launch ins ≡ false → Holds x.code store (memory_of i) →
+      (T : Instance → Type 0) → is_issue ins ≡ false → Holds x.code store (memory_of i) →
       IsCovered i.contents i.needs (record { root = place; field = f; point = n; access = a }) →
       Stands x.body pc (op ins line) →
       (find i.frame.needs.items i.parts (number_at i.contents place) f n ≡ missing →
@@ -135,7 +135,7 @@ module _ (x : Setting) where
       × Holds x.code (write_at store place f n z) (memory_of (parted ps i))
 
   pub sets : (a : Mode) → a ≢ mode.Read → (i : Instance) (pc line place f n : ℕ) (p v : ℤ) (st : List Value) (rs : List ℕ)
-      (w : Width) (ins : Instr) (store : Store) → is_launch ins ≡ false →
+      (w : Width) (ins : Instr) (store : Store) → is_issue ins ≡ false →
       ((m : Machine) → act x.code x.body ins line m ≡ set a rs f w line m) →
       w ≡ width_of (kind_of x.code i.contents (number_at i.contents place) f) →
       IsKept (kind_of x.code i.contents (number_at i.contents place) f) (changed a w (read_at store place f n) v) →

@@ -30,7 +30,7 @@ use Rattle.machine_terms.specs.Jumps.{jump, goes_back, fetch}
 use Rattle.machine_terms.specs.Segments.{act}
 use Rattle.code_rules.specs.Pieces.{Piece, empty, op, ◌⨟◌, over, branch, loop, rounds, past}
 use Rattle.code_rules.specs.Instructions.{computing, comparing}
-use Rattle.machine_terms.proofs.StepKinds.{is_launch}
+use Rattle.code_laws.specs.Steps.{is_issue}
 use Rattle.code_laws.specs.Steps.{Setting}
 use Rattle.code_laws.specs.Standing.{machine_value, AreOf, IsInside, IsOf, of_integer, nothing}
 
@@ -127,14 +127,14 @@ act_comparing code body comparison.Greater line m = refl
 act_comparing code body comparison.AtLeast line m = refl
 
 -- and neither is a launch
-pub computing_alone : (o : Arithmetic) (w : Width) → is_launch (computing o w) ≡ false
+pub computing_alone : (o : Arithmetic) (w : Width) → is_issue (computing o w) ≡ false
 computing_alone arithmetic.Add w = refl
 computing_alone arithmetic.Subtract w = refl
 computing_alone arithmetic.Multiply w = refl
 computing_alone arithmetic.Divide w = refl
 computing_alone arithmetic.Remainder w = refl
 
-pub comparing_alone : (c : Comparison) → is_launch (comparing c false) ≡ false
+pub comparing_alone : (c : Comparison) → is_issue (comparing c false) ≡ false
 comparing_alone comparison.Equal = refl
 comparing_alone comparison.NotEqual = refl
 comparing_alone comparison.Less = refl

@@ -1,6 +1,6 @@
 -- A task instance in a run in order, instruction by instruction: what a segment stops for is done at
 -- once, and the instance goes on.
-use Rattle.std.specs.Prelude.{◌≡◌, Bool, false, ℕ, zero, suc, ◌+◌, List, ◌++◌, None, Option, Some}
+use Rattle.std.specs.Prelude.{◌≡◌, Bool, false, true, ℕ, zero, suc, ◌+◌, List, ◌++◌, None, Option, Some}
 use Rattle.region_tree.specs.declared.tree.RootId.{RootId}
 use Rattle.regent_tree.specs.declared.outcome.Fault.{Fault}
 use Rattle.regent_tree.specs.Syntax.{Tree}
@@ -19,10 +19,10 @@ use Rattle.machine_terms.specs.declared.order.Resumed.{Resumed}
 use Rattle.machine_terms.specs.declared.order.Resumed.TheVariants.{GoesOn, IsOver}
 use Rattle.machine_terms.specs.declared.outcome.Yield.TheVariants as yield
 use Rattle.machine_terms.specs.declared.value.Value.{Value}
-use Rattle.machine_terms.specs.Jumps.{fetch}
-use Rattle.machine_terms.specs.Machine.{Machine, Stepped, goes, prints, stops}
-use Rattle.machine_terms.specs.Orders.{Runner, conclude, resume_in, until_over}
-use Rattle.machine_terms.specs.Segments.{frame_after, step}
+use Rattle.machine_terms.specs.Machine.{Stepped}
+use Rattle.machine_terms.specs.Orders.{Runner}
+pub use Rattle.eager_laws.specs.Steps.{due, has_machine, machine_of, now_or_due, resolved}
+use Rattle.eager_laws.specs.Steps.{Running, advance_eager, behind_line_eager, behind_eager, on_step as step_on, run_by}
 
 -- a task that may have regions among its parameters: how many parameters there are, what it needs of them, which
 -- of them have regions that lie within those of which others, within which region one with a number begins as a part, and
@@ -61,46 +61,36 @@ pub record Setting : Type 0 where
   pub args : List Meant
   pub forms : Forms
 
-abbrev pub machine_of : Instance → Machine
-machine_of i = record { frame = i.frame; parts = i.parts }
-
-abbrev pub has_machine : Machine → Instance → Instance
-has_machine m i = record i { frame = m.frame; parts = m.parts }
+-- what runs: the code, the turns, what calls come to, and the code of the task
+abbrev pub running : Setting → Running
+running x = record { code = x.code; turns = x.turns; child = x.child; body = x.body }
 
 -- the instance at a place, with a stack
 abbrev pub placed : ℕ → List Value → Instance → Instance
 placed pc st i = record i { frame = record i.frame { pc = pc; stack = st } }
 
+-- Step by step in the eager run: the result of each call is a number at once (eager_laws).
 abbrev pub on_step : Setting → Instance → Stepped → Resumed
-on_step x i (goes m) = GoesOn (has_machine m i)
-on_step x i (prints t m) = GoesOn (record (has_machine m i) { text = i.text ++ t })
-on_step x i (stops y m) =
-    resume_in x.code x.turns x.child (frame_after y m.frame) y (has_machine m i)
-
--- a fault that a launch keeps for later comes where the instance would go on
-abbrev pub now_or_due : Option Fault → Instance → Resumed
-now_or_due None i = GoesOn i
-now_or_due (Some f) i = IsOver (conclude (yield.Fault f) i)
-
-abbrev pub due : Resumed → Resumed
-due (GoesOn i) = now_or_due i.frame.later i
-due (IsOver e) = IsOver e
+on_step x i s = step_on (running x) i s
 
 abbrev pub behind : Instr → Resumed → Resumed
-behind (instr.Launch task s line args) r = due r
-behind _ r = r
+behind i r = behind_eager i r
 
 abbrev pub behind_line : Option Line → Resumed → Resumed
-behind_line None r = r
-behind_line (Some l) r = behind l.instr r
+behind_line o r = behind_line_eager o r
+
+-- a call or a launch
+abbrev pub is_issue : Instr → Bool
+is_issue (instr.Launch task s line args) = true
+is_issue (instr.Call task n) = true
+is_issue _ = false
 
 abbrev pub advance : Setting → Instance → Resumed
-advance x i = behind_line (fetch x.body i.frame.pc) (on_step x i (step x.code x.body (machine_of i)))
+advance x i = advance_eager (running x) i
 
 -- at most so many instructions and waits
 abbrev pub run_steps : Setting → ℕ → Instance → Ended
-run_steps x zero i = Broke None i.text
-run_steps x (suc k) i = until_over (advance x i) (run_steps x k)
+run_steps x k i = run_by (advance_eager (running x)) k i
 
 -- roots behind others
 pub record HasMore (before after : List RootId) : Type 0 where

@@ -1,6 +1,7 @@
 pub mod Bodies
 pub mod ExpressionSizes
 pub mod FewSlots
+pub mod KeptCalls
 pub mod Laid
 pub mod LaunchCodes
 pub mod LowSlots

@@ -10,7 +10,7 @@ use Rattle.regent_tree.specs.declared.typing.StaticType.{StaticType}
 use Rattle.task_code.specs.declared.code.Line.{Line}
 use Rattle.task_code.specs.declared.instr.Instr.TheVariants as instr
 use Rattle.code_rules.specs.Pieces.{Piece, empty, op, ◌⨟◌, over, branch, loop, rounds, past, lines}
-use Rattle.code_rules.specs.Slots.{Where, beside, bound, counter, own_slot, slot, slot_bound, slot_named, slot_of_reach, spare, stays}
+use Rattle.code_rules.specs.Slots.{Where, beside, bound, counter, own_slot, slot, slot_bound, slot_named, slot_of_reach, result, spare, stays}
 use Rattle.code_rules.specs.Used.{above_all, greatest, slots_of_lines, slots_used}
 
 -- a slot for a place of at most m: each place has three
@@ -80,7 +80,10 @@ pub beside_low : (m : ℕ) (w : Where) (place : ℕ) → place ≤ m → IsLow m
 beside_low m w place h = omega (arith, h)
 
 pub spare_low : (m : ℕ) (w : Where) (d : ℕ) → length w.scope.names + d ≤ m → IsLow m (spare w d)
-spare_low m w d h = omega (arith, h)
+spare_low m w d h = beside_low m w (length w.scope.names + d) h
+
+pub result_low : (m : ℕ) (w : Where) (d : ℕ) → length w.scope.names + d ≤ m → IsLow m (result w d)
+result_low m w d h = slot_low m w (length w.scope.names + d) h
 
 pub named_low : (m : ℕ) (w : Where) (n : Name) → Placed m w.scope.names → IsLow m (slot_named w n)
 named_low m w n p = slot_low m w (bound w n).place (place_named m w.scope.names n p)

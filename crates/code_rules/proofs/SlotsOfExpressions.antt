@@ -27,7 +27,7 @@ use Rattle.code_rules.specs.Pieces.{empty}
 use Rattle.code_rules.specs.Slots.{Where, bound, own_slot, slot_named, spare, stays, typed}
 use Rattle.code_rules.specs.Used.{slots_used}
 use Rattle.code_rules.proofs.ExpressionSizes.{both_nodes}
-use Rattle.code_rules.proofs.LowSlots.{Fits, IsLow, Placed, either_fits, free, named_low, own_low, place_named, reaches_low, spare_low}
+use Rattle.code_rules.proofs.LowSlots.{Fits, IsLow, Placed, either_fits, free, named_low, own_low, place_named, reaches_low, result_low, spare_low}
 
 -- ---- single instructions
 
@@ -184,7 +184,7 @@ mutual
         (standing_fits m w (typed w e), signs_fits m w (typed w e) signs),
       )
   expr_fits m w d (call_expr task args) p h =
-      let l = spare_low m w d (omega (arith, h)) in (
+      let l = result_low m w d (omega (arith, h)) in (
         exprs_fits m w d (params_at w.tree w.scope (task_named w.tree task) args) args p (omega (arith, h)),
         (free m, (l, l)),
       )

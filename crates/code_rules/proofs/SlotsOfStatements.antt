@@ -28,6 +28,7 @@ use Rattle.code_rules.specs.Slots.{Where, beside, bound, counter, own_slot, slot
 use Rattle.code_rules.specs.Statements.{after_arm, after_arms, after_form, arms_code, block_code, else_code, form_code, looping, on_line, points_code}
 use Rattle.code_rules.specs.Used.{above_all}
 use Rattle.code_rules.proofs.ExpressionSizes.{both_nodes}
+use Rattle.code_rules.proofs.KeptCalls.{assigned_either, begun_either}
 use Rattle.code_rules.proofs.LaunchCodes.{launch_fits}
 use Rattle.code_rules.proofs.LowSlots.{Fits, IsLow, Placed, beside_low, bound_low, counter_low, either_fits, free, named_low, own_low, place_named, reaches_low, slot_low, spare_low, three_low}
 use Rattle.code_rules.proofs.PlainCode.{plain_either, written_either}
@@ -219,10 +220,12 @@ mutual
   form_fits : (m : ℕ) (w : Where) (form : Form) → Placed m w.scope.names →
       suc (length w.scope.names + number_of_nodes (parts_of_form form)) ≤ m → Fits m (form_code w form)
   form_fits m w (var_form n term i) p h =
-      let k = both_nodes (parts_of_type term) (parts_of_init i) in (
-        initializer_fits m w term (var_type w.tree w.scope term i) i p (omega (arith, h, k)),
-        slot_low m w (new_place w) (omega (arith, h)),
-      )
+      let k = both_nodes (parts_of_type term) (parts_of_init i) in
+      let low = slot_low m w (new_place w) (omega (arith, h)) in
+      begun_either (Fits m) w (slot w (new_place w)) _ (initializer_fits m w term (var_type w.tree w.scope term i) i p (omega (arith, h, k)), low)
+      (var_type w.tree w.scope term i) i
+      (λ task args is. let same = ap (λ (j : Option Initializer). number_of_nodes (parts_of_init j)) is in
+      let c = expr_fits m w 0 (call_expr task args) p (omega (arith, h, k, same)) in (c.0, (c.1.0, low)))
   form_fits m w (if_form arms other) p h =
       let n = both_nodes (parts_of_arms arms) (parts_of_otherwise other) in
       let same = arms_names w.tree w.scope arms in
@@ -280,7 +283,10 @@ mutual
       (a, (free m, free m))
   form_fits m w (assign_form n steps how e) p h =
       let k = both_nodes (parts_of_steps steps) (parts_of_expression e) in
-      (right_fits m w n steps how e p (omega (arith, h, k)), target_fits m w n steps how p (omega (arith, h, k)))
+      assigned_either (Fits m) w (slot_named w n) _
+      (right_fits m w n steps how e p (omega (arith, h, k)), target_fits m w n steps how p (omega (arith, h, k))) n steps how e
+      (λ task args is keeps still. let same = ap (λ (j : Expression). number_of_nodes (parts_of_expression j)) is in
+      let c = expr_fits m w 0 (call_expr task args) p (omega (arith, h, k, same)) in (c.0, (c.1.0, named_low m w n p)))
   form_fits m w (return_form None) p h = free m
   form_fits m w (return_form (Some e)) p h =
       let a = expr_fits m w 0 e p (omega (arith, h)) in

@@ -1,5 +1,5 @@
 -- The code of each statement has at most 16 instructions for each of its nodes.
-use Rattle.std.proofs.Common.{◌≡◌, ◌≤◌, ◌+◌, ◌*◌, ℕ, List, [], ◌∷◌, ◌++◌, length, refl, arith, Bool, true, false, cond, Option, Some, None}
+use Rattle.std.proofs.Common.{◌≡◌, ◌≤◌, ◌+◌, ◌*◌, ℕ, List, [], ◌∷◌, ◌++◌, length, refl, ap, arith, Bool, true, false, cond, Option, Some, None}
 use Rattle.lane_kernels.specs.declared.numbers.Op.TheVariants.{Sum, Product, Least, Greatest}
 use Rattle.lane_kernels.specs.declared.numbers.Op.{Op}
 use Rattle.lane_kernels.specs.declared.numbers.Width.{Width}
@@ -21,7 +21,7 @@ use Rattle.std.specs.Prelude.{◌&&◌}
 use Rattle.code_rules.specs.Launches.{is_launch}
 use Rattle.check_rules.specs.types.Sorts.{is_space}
 use Rattle.code_rules.specs.Pieces.{Piece}
-use Rattle.code_rules.specs.Slots.{Where, bound, own_slot, slot_named, typed}
+use Rattle.code_rules.specs.Slots.{Where, bound, own_slot, slot, slot_named, typed}
 use Rattle.code_rules.specs.Statements.{after_arm, after_arms, after_form, arms_code, block_code, else_code, form_code, looping, on_line, points_code}
 use Rattle.code_rules.proofs.Sizes.{size}
 use Rattle.code_rules.specs.Initializers.{names_child, new_place}
@@ -33,6 +33,7 @@ use Rattle.regent_tree.specs.Typing.{width_of_type}
 use Rattle.task_code.specs.declared.instr.Instr.TheVariants as instr
 use Rattle.code_rules.proofs.LaunchCodes.{launch_size}
 use Rattle.code_rules.proofs.PlainCode.{plain_either, written_either}
+use Rattle.code_rules.proofs.KeptCalls.{assigned_either, begun_either}
 use Rattle.code_rules.proofs.ExpressionSizes.{both_nodes, all_nodes, converted_size, expr_size, exprs_size}
 
 either_size : (b : Bool) (p q : Piece) (n : ℕ) → size p ≤ n → size q ≤ n → size (cond b p q) ≤ n
@@ -175,8 +176,11 @@ mutual
       size (form_code w form) ≤ 16 + 16 * number_of_nodes (parts_of_form form)
   form_size w (var_form n term i) =
       let a = initializer_size w term (var_type w.tree w.scope term i) i in
-      let n = both_nodes (parts_of_type term) (parts_of_init i) in
-      omega (arith, a, n)
+      let k = both_nodes (parts_of_type term) (parts_of_init i) in
+      let most = 16 + 16 * number_of_nodes (parts_of_form (var_form n term i)) in
+      begun_either (λ (p : Piece). size p ≤ most) w (slot w (new_place w)) _ (omega (arith, a, k)) (var_type w.tree w.scope term i) i
+      (λ task args is. let c = expr_size w 0 (call_expr task args) in
+      let same = ap (λ (j : Option Initializer). number_of_nodes (parts_of_init j)) is in omega (arith, c, k, same))
   form_size w (if_form arms other) =
       let a = arms_size w w arms (else_code (after_arms w arms) other) in
       let b = else_size (after_arms w arms) other in
@@ -219,7 +223,10 @@ mutual
       let a = right_size w n steps h e in
       let b = target_size w n steps h in
       let m = both_nodes (parts_of_steps steps) (parts_of_expression e) in
-      omega (arith, a, b, m)
+      let most = 16 + 16 * number_of_nodes (parts_of_form (assign_form n steps h e)) in
+      assigned_either (λ (p : Piece). size p ≤ most) w (slot_named w n) _ (omega (arith, a, b, m)) n steps h e
+      (λ task args is keeps still. let c = expr_size w 0 (call_expr task args) in
+      let same = ap (λ (j : Expression). number_of_nodes (parts_of_expression j)) is in omega (arith, c, m, same))
   form_size w (return_form None) = omega arith
   form_size w (return_form (Some e)) =
       let a = expr_size w 0 e in

@@ -12,7 +12,7 @@ use Rattle.regent_tree.specs.Evaluation.{first_type, other_types}
 use Rattle.regent_tree.specs.Operators.{compares_pointers}
 use Rattle.task_code.specs.declared.instr.Instr.TheVariants as instr
 use Rattle.code_rules.specs.Pieces.{Piece, empty, ◌⨟◌, over}
-use Rattle.code_rules.specs.Slots.{Where, typed, spare, bound, slot_named, own_slot}
+use Rattle.code_rules.specs.Slots.{Where, typed, result, spare, bound, slot_named, own_slot}
 use Rattle.code_rules.specs.Instructions.{place_of_task, one, standing_code, operand_code, converted_code, operating, signs_code, as_number_code, cast_code, field_code, element_code, kept_code, slot_after, load_code}
 
 abbrev pub count : Expressions → ℕ
@@ -32,7 +32,7 @@ abbrev mutual
   expr_code w d (call_expr task args) =
       exprs_code w d (params_at w.tree w.scope (task_named w.tree task) args) args
       ⨟ one w (instr.Call (place_of_task w.tree task) (count args))
-      ⨟ one w (instr.Store (spare w d)) ⨟ one w (instr.Load (spare w d))
+      ⨟ one w (instr.Store (result w d)) ⨟ one w (instr.Load (result w d))
   expr_code w d (access_expr n steps) =
       let t = (bound w n).static_type in
       load_code w t (slot_named w n) steps

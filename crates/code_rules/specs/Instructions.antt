@@ -16,7 +16,7 @@ use Rattle.regent_tree.specs.declared.expression.Sign.TheVariants.{Minus, Not}
 use Rattle.regent_tree.specs.declared.types.NumberTerm.{NumberTerm}
 use Rattle.regent_tree.specs.declared.types.NumberTerm.TheVariants as number
 use Rattle.regent_tree.specs.declared.typing.StaticType.{StaticType}
-use Rattle.regent_tree.specs.declared.typing.StaticType.TheVariants.{Integer as integer_type, Index as index_type, Pointer as pointer_type, Partition as partition_type}
+use Rattle.regent_tree.specs.declared.typing.StaticType.TheVariants.{Integer as integer_type, Truth as truth_type, Index as index_type, Pointer as pointer_type, Partition as partition_type}
 use Rattle.regent_tree.specs.Syntax.{Name, Tree, ItemForm, task_item, TaskTree, Steps, no_step, field_step, at_step}
 use Rattle.regent_tree.specs.StaticTypes.{field_place}
 use Rattle.regent_tree.specs.Typing.{operated, are_pointers, reaches_of, positions, width_of_type}
@@ -64,6 +64,15 @@ converted_code w from (index_type k) = standing_code w from
 converted_code w from (pointer_type k sp args reaches) =
     one w (instr.Move (positions w.scope.known (reaches_of from) reaches))
 converted_code w from _ = empty
+
+-- a number of the one type is one of the other as it is
+abbrev pub keeps_number : StaticType → StaticType → Bool
+keeps_number (integer_type W32) (integer_type W32) = true
+keeps_number (integer_type W64) (integer_type W64) = true
+keeps_number truth_type truth_type = true
+keeps_number (integer_type v) (index_type k) = true
+keeps_number (index_type j) (index_type k) = true
+keeps_number from to = false
 
 abbrev pub computing : Arithmetic → Width → Instr
 computing arithmetic.Add v = instr.Add v

@@ -37,9 +37,12 @@ counter w place = slot w place + 1
 abbrev pub beside : Where → ℕ → ℕ
 beside w place = slot w place + 2
 
--- the spare slot with this number
+-- the spare slot with this number, and the one for a result: the third and the first slot of a place behind the names
 abbrev pub spare : Where → ℕ → ℕ
-spare w d = slot w (length w.scope.names) + 2 + d
+spare w d = beside w (length w.scope.names + d)
+
+abbrev pub result : Where → ℕ → ℕ
+result w d = slot w (length w.scope.names + d)
 
 abbrev pub bound : Where → Name → Bound
 bound w n = bound_to w.scope.names n

@@ -1,14 +1,18 @@
 -- The code of statements. Nothing is left on the stack.
-use Rattle.std.specs.Prelude.{ℕ, pos, [], Bool, true, Option, Some, None}
+use Rattle.std.specs.Prelude.{ℕ, pos, [], Bool, true, ◌||◌, nat_lt, cond, Option, Some, None}
 use Rattle.regent_tree.specs.declared.typing.StaticType.{StaticType}
-use Rattle.regent_tree.specs.Syntax.{Name, a_statement, Form, var_form, if_form, while_form, for_in_form, for_to_form, do_form, fill_form, assert_form, print_form, call_form, assign_form, return_form, Block, no_statement, then_statement, Arms, no_arm, an_arm, Otherwise, no_else, else_block}
+use Rattle.regent_tree.specs.Syntax.{Name, Expression, call_expr, Expressions, Steps, no_step, Initializer, plain_initializer, a_statement, Form, var_form, if_form, while_form, for_in_form, for_to_form, do_form, fill_form, assert_form, print_form, call_form, assign_form, return_form, Block, no_statement, then_statement, Arms, no_arm, an_arm, Otherwise, no_else, else_block}
+use Rattle.regent_tree.specs.declared.typing.Bound.{Bound}
+use Rattle.regent_tree.specs.declared.types.TypeTerm.{TypeTerm}
+use Rattle.regent_tree.specs.declared.statement.How.{How}
+use Rattle.regent_tree.specs.declared.statement.How.TheVariants as how
 use Rattle.regent_tree.specs.StaticTypes.{task_named}
 use Rattle.regent_tree.specs.Scopes.{with_name, past as past_scope}
 use Rattle.regent_tree.specs.Typing.{arithmetic_type, params_at, var_type, scope_after, scope_after_block, scope_after_arms, taken_from, is_pointer}
 use Rattle.task_code.specs.declared.instr.Instr.TheVariants as instr
 use Rattle.code_rules.specs.Pieces.{Piece, empty, ◌⨟◌, branch, loop, rounds}
 use Rattle.code_rules.specs.Slots.{Where, typed, slot, counter, beside, spare, bound, slot_named}
-use Rattle.code_rules.specs.Instructions.{place_of_task, one, converted_code}
+use Rattle.code_rules.specs.Instructions.{keeps_number, place_of_task, one, converted_code}
 use Rattle.code_rules.specs.Expressions.{expr_code, exprs_code, count}
 use Rattle.code_rules.specs.Initializers.{new_place, initializer_code}
 use Rattle.code_rules.specs.Assignments.{right_code, target_code, fill_code}
@@ -43,11 +47,43 @@ in_one_step w inner i None points = points
 in_one_step w inner i (Some c) points =
     launch_code w (on_line inner c.line) i (beside w (new_place w)) c
 
+-- ---- results that are kept as they come
+
+-- the call whose result goes into a variable of a type as it comes, with nothing that waits for it
+abbrev pub call_kept : Where → StaticType → Expression → Option (Name × Expressions)
+call_kept w t (call_expr task args) = cond (keeps_number (typed w (call_expr task args)) t) (Some (task, args)) None
+call_kept w t e = None
+
+abbrev pub call_begun : Where → StaticType → Option Initializer → Option (Name × Expressions)
+call_begun w t (Some (plain_initializer e)) = call_kept w t e
+call_begun w t i = None
+
+-- a loop's variable or a parameter, in whose slot no child may be pending (neither is ever assigned)
+abbrev pub is_still : ℕ → Bound → Bool
+is_still params b = b.by_loop || nat_lt b.place params
+
+abbrev pub call_assigned : Where → Name → Steps → How → Expression → Option (Name × Expressions)
+call_assigned w n no_step how.Set e = cond (is_still w.params (bound w n)) None (call_kept w (bound w n).static_type e)
+call_assigned w n steps h e = None
+
+abbrev pub put_call : Where → ℕ → Name → Expressions → Piece
+put_call w s task args = exprs_code w 0 (params_at w.tree w.scope (task_named w.tree task) args) args
+    ⨟ one w (instr.Call (place_of_task w.tree task) (count args)) ⨟ one w (instr.Store s)
+
+-- a variable that begins with anything
+abbrev pub begun_form : Where → Option TypeTerm → Option Initializer → Piece
+begun_form w term i = initializer_code w term (var_type w.tree w.scope term i) i ⨟ one w (instr.Store (slot w (new_place w)))
+
+-- where there is one, it is put into a slot
+abbrev pub kept_or : Where → ℕ → Option (Name × Expressions) → Piece → Piece
+kept_or w s (Some c) other = put_call w s c.0 c.1
+kept_or w s None other = other
+
 abbrev mutual
   pub form_code : Where → Form → Piece
   form_code w (var_form n term initializer) =
-      initializer_code w term (var_type w.tree w.scope term initializer) initializer
-      ⨟ one w (instr.Store (slot w (new_place w)))
+      kept_or w (slot w (new_place w)) (call_begun w (var_type w.tree w.scope term initializer) initializer)
+      (begun_form w term initializer)
   form_code w (if_form arms other) = arms_code w w arms (else_code (after_arms w arms) other)
   form_code w (while_form test body) =
       loop w.line (expr_code w 0 test) (block_code w body)
@@ -74,7 +110,7 @@ abbrev mutual
       exprs_code w 0 (params_at w.tree w.scope (task_named w.tree task) args) args
       ⨟ one w (instr.Call (place_of_task w.tree task) (count args)) ⨟ one w instr.Drop
   form_code w (assign_form n steps h e) =
-      right_code w n steps h e ⨟ target_code w n steps h
+      kept_or w (slot_named w n) (call_assigned w n steps h e) (right_code w n steps h e ⨟ target_code w n steps h)
   form_code w (return_form None) = one w instr.Return
   form_code w (return_form (Some e)) =
       expr_code w 0 e ⨟ converted_code w (typed w e) w.result ⨟ one w instr.ReturnValue

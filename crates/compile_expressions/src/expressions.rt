@@ -117,7 +117,7 @@ fn call(
     ensures code { OnOk result (body.new ≡ emitted body.old (expr_code (where_of here.now) depth (call_expr task.now (expressions_in args.now)))) }
 {
     called(here, body, depth, task, args)?;
-    let slot = here.spare(depth)?;
+    let slot = here.result(depth)?;
     one(here, body, Instr::Store(slot))?;
     one(here, body, Instr::Load(slot))?;
     result_of(here, task)

@@ -9,6 +9,8 @@ mod fills;
 mod folds;
 mod forms;
 mod initializers;
+mod kept;
 
 pub use forms::without_block;
 pub use initializers::{initializer, parent_of};
+pub use kept::{keeps, put_call};

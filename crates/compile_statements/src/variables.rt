@@ -1,29 +1,25 @@
 //! `var` statements: their code, and the scope behind them.
 
 ghost use Rattle.std.specs.Option.{option_map};
-ghost use Rattle.std.specs.Prelude.{◌≡◌, ◌++◌, [], IfOk, OnOk, false, option_to_list};
-ghost use Rattle.regent_tree.specs.Plain.{initializer_of};
+ghost use Rattle.std.specs.Prelude.{◌≡◌, ◌++◌, [], IfOk, OnOk, Some, false, option_to_list};
+ghost use Rattle.regent_tree.specs.Plain.{expression_of, expressions_in, initializer_of};
 ghost use Rattle.regent_tree.specs.Scopes.{knowing, known_of_type, with_name};
-ghost use Rattle.regent_tree.specs.Syntax.{var_form};
+ghost use Rattle.regent_tree.specs.Syntax.{call_expr, plain_initializer, var_form};
 ghost use Rattle.regent_tree.specs.Typing.{known_of_initializer, scope_after, var_type};
 ghost use Rattle.code_rules.specs.Emitted.{emitted};
-ghost use Rattle.code_rules.specs.Initializers.{initializer_code, new_place};
-ghost use Rattle.code_rules.specs.Instructions.{one};
-ghost use Rattle.code_rules.specs.Pieces.{◌⨟◌};
-ghost use Rattle.code_rules.specs.Slots.{slot};
 ghost use Rattle.code_rules.specs.Statements.{form_code};
-ghost use Rattle.task_code.specs.declared.instr.Instr.TheVariants as instr;
 ghost use Rattle.compile_types.specs.Here.{where_of};
 ghost use Rattle.compile_statements.specs.Scopes.{seen, tree_at, where_in};
+ghost use Rattle.compile_statements.specs.Variables.{begun_as, from_stack};
 
 use crate::at::At;
 use crate::scope::Scope;
 use crate::variable_types::{known_of_initializer, var_type};
 use compile_expressions::{Body, one};
-use compile_forms::initializer;
+use compile_forms::{initializer, keeps, put_call};
 use compile_types::Here;
 use program_tables::copy_name;
-use regent_tree::{Init, Known, Name, StaticType, TypeTerm};
+use regent_tree::{Expr, Init, Known, Name, StaticType, TypeTerm};
 use std::alloc::AllocError;
 use task_code::Instr;
 
@@ -79,6 +75,62 @@ pub fn bind(
     know(scope, of_type)
 }
 
+/// The value of a new variable of a type goes into its slot from the stack.
+fn begin_from_stack(
+    here: &Here,
+    body: &mut Body,
+    term: &Option<TypeTerm>,
+    t: &StaticType,
+    init: &Option<Init>,
+) -> Result<(), AllocError>
+    ensures { OnOk result (body.new ≡ emitted body.old
+        (from_stack (where_of here.now) term.now t.now (option_map initializer_of init.now))) }
+{
+    initializer(here, body, term, t, init)?;
+    let slot = here.slot(here.next_place()?)?;
+    one(here, body, Instr::Store(slot))
+}
+
+/// A new variable begins with a call's result: as it comes, where nothing has to be made of it.
+fn begin_call(
+    here: &Here,
+    body: &mut Body,
+    term: &Option<TypeTerm>,
+    t: &StaticType,
+    init: &Option<Init>,
+    task: &Name,
+    args: &[Expr],
+) -> Result<(), AllocError>
+    requires { option_map initializer_of init.now ≡ Some (plain_initializer (call_expr task.now (expressions_in args.now))) }
+    ensures { OnOk result (body.new ≡ emitted body.old (begun_as (where_of here.now) term.now t.now
+        (Some (plain_initializer (call_expr task.now (expressions_in args.now)))))) }
+{
+    if keeps(here, t, task, args)? {
+        let slot = here.slot(here.next_place()?)?;
+        return put_call(here, body, slot, task, args);
+    }
+    begin_from_stack(here, body, term, t, init)
+}
+
+/// A new variable begins with an expression.
+fn begin_plain(
+    here: &Here,
+    body: &mut Body,
+    term: &Option<TypeTerm>,
+    t: &StaticType,
+    init: &Option<Init>,
+    e: &Expr,
+) -> Result<(), AllocError>
+    requires { option_map initializer_of init.now ≡ Some (plain_initializer (expression_of e.now)) }
+    ensures { OnOk result (body.new ≡ emitted body.old (begun_as (where_of here.now) term.now t.now
+        (Some (plain_initializer (expression_of e.now))))) }
+{
+    match e {
+        Expr::Call { task, args } => begin_call(here, body, term, t, init, task, args.as_slice()),
+        _ => begin_from_stack(here, body, term, t, init),
+    }
+}
+
 /// The value of a new variable of a type goes into its slot.
 fn begin(
     here: &Here,
@@ -88,12 +140,12 @@ fn begin(
     init: &Option<Init>,
 ) -> Result<(), AllocError>
     ensures { OnOk result (body.new ≡ emitted body.old
-        (initializer_code (where_of here.now) term.now t.now (option_map initializer_of init.now)
-        ⨟ one (where_of here.now) (instr.Store (slot (where_of here.now) (new_place (where_of here.now)))))) }
+        (begun_as (where_of here.now) term.now t.now (option_map initializer_of init.now))) }
 {
-    initializer(here, body, term, t, init)?;
-    let slot = here.slot(here.next_place()?)?;
-    one(here, body, Instr::Store(slot))
+    match init {
+        Some(Init::Plain(e)) => begin_plain(here, body, term, t, init, e),
+        _ => begin_from_stack(here, body, term, t, init),
+    }
 }
 
 /// The code of a `var`, and what is bound by it.

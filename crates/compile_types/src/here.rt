@@ -1,8 +1,8 @@
 //! Where code is made, and the slots that are used there.
 
-ghost use Rattle.std.specs.Prelude.{◌≡◌, ◌+◌, IfOk, map};
+ghost use Rattle.std.specs.Prelude.{◌≡◌, ◌+◌, IfOk, length, map};
 ghost use Rattle.compile_types.specs.Here.{where_of};
-ghost use Rattle.code_rules.specs.Slots.{beside, bound, counter, own_slot, slot, slot_bound, slot_named, slot_of_reach, slots_of, spare, stays};
+ghost use Rattle.code_rules.specs.Slots.{beside, bound, counter, own_slot, slot, slot_bound, slot_named, slot_of_reach, slots_of, result as result_slot, spare, stays};
 ghost use Rattle.code_rules.specs.Initializers.{new_place};
 
 use crate::symbols::Symbols;
@@ -94,8 +94,22 @@ impl<'a> Here<'a> {
     pub fn spare(&self, depth: u32) -> Result<u32, AllocError>
         ensures { IfOk result (λ s. s ≡ spare (where_of self.now) depth) }
     {
+        self.beside(self.place_behind(depth)?)
+    }
+
+    /// The slot of a result at a depth.
+    pub fn result(&self, depth: u32) -> Result<u32, AllocError>
+        ensures { IfOk result (λ s. s ≡ result_slot (where_of self.now) depth) }
+    {
+        self.slot(self.place_behind(depth)?)
+    }
+
+    /// A place behind those of the names in scope.
+    fn place_behind(&self, depth: u32) -> Result<u32, AllocError>
+        ensures { IfOk result (λ p. p ≡ length (where_of self.now).scope.names + depth) }
+    {
         let next = self.next_place()?;
-        narrow(self.wide_slot(next) + 2 + depth as u64)
+        narrow(next as u64 + depth as u64)
     }
 
     /// The place of what a name is bound to.

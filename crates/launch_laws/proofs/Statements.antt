@@ -22,18 +22,20 @@ use Rattle.check_rules.specs.scopes.Visits.{Visit}
 use Rattle.check_rules.specs.types.KnownTypes.{known_type}
 use Rattle.check_rules.specs.types.Sorts.{is_space, may_be}
 use Rattle.check_laws.specs.MeantVisits.{meant_in, meant_in_arms, meant_in_else, meant_visits, meant_within}
+use Rattle.code_rules.specs.Assignments.{right_code, target_code}
 use Rattle.code_rules.specs.Expressions.{expr_code}
 use Rattle.code_rules.specs.Initializers.{new_place}
 use Rattle.code_rules.specs.Instructions.{one, place_of_task}
 use Rattle.code_rules.specs.Launches.{LaunchedCall, args_of, is_launch, kept_code, launched_call}
 use Rattle.code_rules.specs.Pieces.{Piece, branch, rounds, ◌⨟◌}
 use Rattle.code_rules.specs.Slots.{Where, beside, bound, counter, slot, slot_named, typed}
-use Rattle.code_rules.specs.Statements.{after_arm, after_arms, after_form, arms_code, block_code, else_code, form_code, in_one_step, looping, on_line, points_code}
+use Rattle.code_rules.specs.Statements.{after_arm, after_arms, after_form, arms_code, begun_form, block_code, else_code, form_code, in_one_step, looping, on_line, points_code}
+use Rattle.code_rules.proofs.KeptCalls.{assigned_either, begun_either}
 use Rattle.launch_laws.specs.Launched.{launchable}
 use Rattle.launch_laws.specs.Laws.{inside}
 use Rattle.launch_laws.proofs.Calls.{has_call, heads, over_as}
 use Rattle.launch_laws.proofs.Loops.{body_alone, call_by_shape, taken}
-use Rattle.launch_laws.proofs.Pieces.{Makes, behind, makes_both, makes_branch, makes_loop, makes_rounds, quiet_makes}
+use Rattle.launch_laws.proofs.Pieces.{Makes, Quiet, behind, makes_both, makes_branch, makes_loop, makes_rounds, quiet_makes}
 use Rattle.launch_laws.proofs.QuietExpressions.{converted_quiet, expr_quiet, exprs_quiet}
 use Rattle.launch_laws.proofs.QuietStatements.{fill_quiet, fixed_quiet, initializer_quiet, right_quiet, target_quiet}
 
@@ -146,7 +148,9 @@ mutual
   form_makes : (t : TaskTree) (w : Where) (form : Form) → breaches w.tree ≡ [] → Visited w.tree (here_and_below t w form) →
       Makes (form_code w form) (loop_lines w.tree (here_and_below t w form))
   form_makes t w (var_form n term i) sound all =
-      quiet_makes (form_code w (var_form n term i)) (initializer_quiet w term (var_type w.tree w.scope term i) i, refl)
+      quiet_makes (form_code w (var_form n term i)) (begun_either Quiet w (slot w (new_place w)) (begun_form w term i)
+      (initializer_quiet w term (var_type w.tree w.scope term i) i, refl) (var_type w.tree w.scope term i) i
+      (λ task args is. (exprs_quiet w 0 (params_at w.tree w.scope (task_named w.tree task) args) args, (refl, refl))))
   form_makes t w (if_form arms other) sound all =
       let after = after_arms w arms in
       let first = meant_in_arms w.tree t w.scope arms in
@@ -199,7 +203,9 @@ mutual
   form_makes t w (call_form task args) sound all = quiet_makes (form_code w (call_form task args))
       (exprs_quiet w 0 (params_at w.tree w.scope (task_named w.tree task) args) args, (refl, refl))
   form_makes t w (assign_form n steps how e) sound all = quiet_makes (form_code w (assign_form n steps how e))
-      (right_quiet w n steps how e, target_quiet w n steps how)
+      (assigned_either Quiet w (slot_named w n) (right_code w n steps how e ⨟ target_code w n steps how)
+      (right_quiet w n steps how e, target_quiet w n steps how) n steps how e
+      (λ task args is keeps still. (exprs_quiet w 0 (params_at w.tree w.scope (task_named w.tree task) args) args, (refl, refl))))
   form_makes t w (return_form None) sound all = quiet_makes (form_code w (return_form None)) refl
   form_makes t w (return_form (Some e)) sound all = quiet_makes (form_code w (return_form (Some e)))
       (expr_quiet w 0 e, (converted_quiet w (typed w e) w.result, refl))

@@ -52,8 +52,8 @@ bodies tree = map (λ (t : TaskCode). t.body) (code_of tree).tasks
 abbrev pub launched : ℕ → ℕ → List Line → List Line
 launched loop called rest =
     on loop (instr.Num (pos 3)) ∷ on loop instr.Space ∷ on loop (instr.Store 3)
-    ∷ on called (instr.Load 0) ∷ on called (instr.Store 7)
-    ∷ on loop (instr.Launch 0 3 called (arg.Point ∷ arg.Keep 7 ∷ [])) ∷ rest
+    ∷ on called (instr.Load 0) ∷ on called (instr.Store 9)
+    ∷ on loop (instr.Launch 0 3 called (arg.Point ∷ arg.Keep 9 ∷ [])) ∷ rest
 
 abbrev pub called_once : ℕ → List Line → List Line
 called_once n rest =

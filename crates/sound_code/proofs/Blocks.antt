@@ -22,6 +22,18 @@ use Rattle.code_laws.specs.Pointers.{BeginsWith}
 use Rattle.code_laws.specs.Typed.{IsIndexed, IsKeepable, IsTyped, element_field, IsTypedForm, AreTypedArms, IsTypedElse, IsTypedBlock}
 use Rattle.marked_code.specs.Marked.{leads_nowhere, typed_op}
 use Rattle.code_laws.proofs.Wider.{any_field, assigned, counting, zeroed}
+use Rattle.regent_tree.specs.Syntax.{call_expr}
+use Rattle.code_rules.proofs.KeptCalls.{kept_either}
+use Rattle.code_rules.specs.Initializers.{new_place}
+use Rattle.code_rules.specs.Instructions.{keeps_number}
+use Rattle.code_rules.specs.Slots.{slot}
+use Rattle.code_rules.specs.Statements.{begun_form, put_call}
+use Rattle.std.proofs.Common.{◌≡◌, true}
+use Rattle.sound_code.proofs.Copies.{begun_called}
+use Rattle.sound_code.proofs.Saying.{said_called}
+use Rattle.sound_code.proofs.Placing.{named_as}
+use Rattle.sound_code.proofs.SlotShapes.{partition_plain, pointer_plain, region_plain, slot_bare, slot_is, slot_numbered, slot_plain}
+use Rattle.sound_code.specs.Named.{name_shape, slot_shape}
 use Rattle.sound_code.specs.Named.{HasPartBeside, HasSlots, loops_in}
 use Rattle.regent_tree.specs.Scopes.{past}
 use Rattle.regent_tree.specs.Typing.{scope_after_arms}
@@ -86,19 +98,45 @@ module _ (g : Program) (t : TaskCode) (k slots : ℕ) (have : HasSlots t slots) 
         ToldAll way w.tree (λ task. meant_within w.tree task w.scope form) → UpTo way w.tree (scope_after w.tree w.scope form) → (pc : ℕ) →
         Stands t.body pc (form_code w form) → Followed g t k forms.keeps way w.tree w.params (after_form w form).scope.names m (form_code w form)
     form_marked w m (var_form x None (Some (plain_initializer e))) f whole a told within up pc st =
+        kept_either (λ p. Stands t.body pc p → Followed g t k forms.keeps way w.tree w.params (after_form w (var_form x None (Some (plain_initializer e)))).scope.names m p)
+        w (slot w (new_place w)) (begun_form w None (Some (plain_initializer e)))
+        (λ st.
         ⊎_elim (λ (begun : (IsKeepable forms.keeps w e × IsTyped forms w e) × Asks forms.keeps (is_value true (owned w.scope.next (typed w e)) && is_whole_expression true w e)).
         begun_marked g t k slots have forms way w m a x e told begun.0.0 begun.0.1 begun.1 pc st)
         (λ d. ⊎_elim (λ minus. minus_marked g t k slots have forms way w m a x e told d.0 minus (stored g t k slots have forms way w m a _ _ st.1))
         (λ part. piece_marked g t k slots have forms way w m a x e told up d.0 part.0 part.1 pc st (stored g t k slots have forms way w m a _ _ st.1)) d.1)
-        (begun_whole forms.keeps forms.takes w e (is_whole_expression true w e) (IsTyped forms w e) (IsIndexed forms w e) f whole)
+        (begun_whole forms.keeps forms.takes w e (is_whole_expression true w e) (IsTyped forms w e) (IsIndexed forms w e) f whole)) (var_type w.tree w.scope None (Some (plain_initializer e))) e
+        (λ task args is keeps. subst (λ e. IsTypedForm forms w (var_form x None (Some (plain_initializer e))) → Asks forms.keeps (is_whole_form true w (var_form x None (Some (plain_initializer e)))) →
+        ToldForm way w.tree w.scope (var_form x None (Some (plain_initializer e))) →
+        keeps_number (typed w (call_expr task args)) (var_type w.tree w.scope None (Some (plain_initializer e))) ≡ true → Stands t.body pc (put_call w (slot w (new_place w)) task args) →
+        Followed g t k forms.keeps way w.tree w.params (after_form w (var_form x None (Some (plain_initializer e)))).scope.names m (put_call w (slot w (new_place w)) task args)) (sym is)
+        (λ f whole told keeps st. ⊎_elim (λ (begun : (IsKeepable forms.keeps w (call_expr task args) × IsTyped forms w (call_expr task args))
+        × Asks forms.keeps (is_value true (owned w.scope.next (typed w (call_expr task args))) && is_whole_expression true w (call_expr task args))).
+        begun_called g t k slots have forms way w m a x task args told begun.0.0 begun.0.1 begun.1 keeps pc st)
+        (λ d. ⊎_elim (λ minus. absurd minus) (λ part. absurd part.0) d.1)
+        (begun_whole forms.keeps forms.takes w (call_expr task args) (is_whole_expression true w (call_expr task args)) (IsTyped forms w (call_expr task args)) (IsIndexed forms w (call_expr task args)) f whole)) f whole told keeps) st
     form_marked w m (var_form x (Some term) (Some (plain_initializer e))) f whole a told within up pc st =
+        kept_either (λ p. Stands t.body pc p → Followed g t k forms.keeps way w.tree w.params (after_form w (var_form x (Some term) (Some (plain_initializer e)))).scope.names m p)
+        w (slot w (new_place w)) (begun_form w (Some term) (Some (plain_initializer e)))
+        (λ st.
         let u = var_type w.tree w.scope (Some term) (Some (plain_initializer e)) in
         ⊎_elim
         (λ (b : (BeginsWith forms.keeps w.scope.names (typed w e) u × IsTyped forms w e) × Asks forms.keeps (is_value true u && is_whole_expression true w e)).
         said_marked g t k slots have forms way w m a x term e b.0.0 b.0.1 b.1 told pc st)
         (λ d. ⊎_elim (λ minus. minus_said g t k slots have forms way w m a x term e told d.0 minus d.2 (stored g t k slots have forms way w m a _ _ st.1))
         (λ part. piece_said g t k slots have forms way w m a x term e told up d.0 part.0 part.1 d.2 pc st (stored g t k slots have forms way w m a _ _ st.1)) d.1)
-        (said_whole forms.keeps forms.takes w e u (is_whole_expression true w e) (IsTyped forms w e) (IsIndexed forms w e) f whole)
+        (said_whole forms.keeps forms.takes w e u (is_whole_expression true w e) (IsTyped forms w e) (IsIndexed forms w e) f whole)) (var_type w.tree w.scope (Some term) (Some (plain_initializer e))) e
+        (λ task args is keeps. subst (λ e. IsTypedForm forms w (var_form x (Some term) (Some (plain_initializer e))) → Asks forms.keeps (is_whole_form true w (var_form x (Some term) (Some (plain_initializer e)))) →
+        ToldForm way w.tree w.scope (var_form x (Some term) (Some (plain_initializer e))) →
+        keeps_number (typed w (call_expr task args)) (var_type w.tree w.scope (Some term) (Some (plain_initializer e))) ≡ true → Stands t.body pc (put_call w (slot w (new_place w)) task args) →
+        Followed g t k forms.keeps way w.tree w.params (after_form w (var_form x (Some term) (Some (plain_initializer e)))).scope.names m (put_call w (slot w (new_place w)) task args)) (sym is)
+        (λ f whole told keeps st. let u = var_type w.tree w.scope (Some term) (Some (plain_initializer (call_expr task args))) in
+        ⊎_elim
+        (λ (b : (BeginsWith forms.keeps w.scope.names (typed w (call_expr task args)) u × IsTyped forms w (call_expr task args))
+        × Asks forms.keeps (is_value true u && is_whole_expression true w (call_expr task args))).
+        said_called g t k slots have forms way w m a x term task args b.0.0 b.0.1 b.1 told keeps pc st)
+        (λ d. ⊎_elim (λ minus. absurd minus) (λ part. absurd part.0) d.1)
+        (said_whole forms.keeps forms.takes w (call_expr task args) u (is_whole_expression true w (call_expr task args)) (IsTyped forms w (call_expr task args)) (IsIndexed forms w (call_expr task args)) f whole)) f whole told keeps) st
     form_marked w m (var_form x (Some term) None) f whole a told within up pc st =
         let u = var_type w.tree w.scope (Some term) None in
         let zero = zeroed forms.keeps w.scope.names u f in
@@ -199,7 +237,7 @@ module _ (g : Program) (t : TaskCode) (k slots : ℕ) (have : HasSlots t slots) 
         (told_listed w.tree w.scope way args (told_heads w.tree w.scope way (print_form alias format args) told)) f.1 pc st
     form_marked w m (assign_form x no_step how.Set e) f whole a told within up pc st =
         assign_marked g t k slots have forms way w m a x e (assigned_becomes _ _ (assigned forms.keeps _ _ f.0)) (set_worth forms.keeps _ _ f.0 (asks_first _ _ _ whole)) f.1 (asks_second _ _ _ whole)
-        (told_head w.tree w.scope way (assign_form x no_step how.Set e) e refl told) f.2 (may_store way w.tree w.scope x how.Set e told f.2) (stored g t k slots have forms way w m a _ _ st.1) pc st.0.0
+        (told_head w.tree w.scope way (assign_form x no_step how.Set e) e refl told) f.2 (may_store way w.tree w.scope x how.Set e told f.2) pc st
     form_marked w m (assign_form x no_step (how.Reduce o) e) f whole a told within up pc st =
         unchanged g t k forms.keeps way w.tree _ _ m _ a.ready a.scoped a.cut (both g t k (value_marked g t k slots have forms way w m a e [] f.2 (asks_second _ _ _ whole)
         (told_head w.tree w.scope way (assign_form x no_step (how.Reduce o) e) e refl told) pc st.0)
@@ -212,7 +250,7 @@ module _ (g : Program) (t : TaskCode) (k slots : ℕ) (have : HasSlots t slots) 
         let goes = assigned_becomes _ _ (assigned forms.keeps _ _ f.0) in
         let out = element_field w x e l in
         let u = (bound w x).static_type in
-        let here = named_at way w.params m.slots w.scope.names x a.ready.named field.named in
+        let here = named_as way w.params m.slots w.scope.names x a.ready.named field.named (region_plain way w.params _ field.region) in
         unchanged g t k forms.keeps way w.tree _ _ m _ a.ready a.scoped a.cut
         (both g t k (both g t k (value_marked g t k slots have forms way w m a y [] f.1 two
         (told_head w.tree w.scope way (assign_form x (at_step e (field_step l no_step)) how.Set y) y refl told) pc st.0.0)
@@ -228,7 +266,7 @@ module _ (g : Program) (t : TaskCode) (k slots : ℕ) (have : HasSlots t slots) 
         let two = asks_second forms.keeps _ (is_whole_expression true w y) whole in
         let out = element_field w x e l in
         let u = (bound w x).static_type in
-        let here = named_at way w.params m.slots w.scope.names x a.ready.named field.named in
+        let here = named_as way w.params m.slots w.scope.names x a.ready.named field.named (region_plain way w.params _ field.region) in
         unchanged g t k forms.keeps way w.tree _ _ m _ a.ready a.scoped a.cut
         (both g t k (value_marked g t k slots have forms way w m a y [] f.2 two
         (told_head w.tree w.scope way (assign_form x (at_step e (field_step l no_step)) (how.Reduce o) y) y refl told) pc st.0)

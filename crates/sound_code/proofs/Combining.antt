@@ -19,6 +19,17 @@ use Rattle.fit_laws.proofs.Held.{none_held, plain_held}
 use Rattle.fit_laws.proofs.Keeping.{are_first, are_others, get_set, get_other, set_mark, stores_behind}
 use Rattle.fit_laws.proofs.Lookup.{value_at, as_long}
 use Rattle.marked_code.specs.Marked.{leads_on, leads_storing, Typed, typed_empty, typed_op, typed_both, typed_into}
+use Rattle.fit_rules.specs.Shapes.{awaited, is_pending}
+use Rattle.std.proofs.lemmas.Bool.{false≢true}
+use Rattle.lane_kernels.specs.declared.numbers.Width.TheVariants.{W32, W64}
+use Rattle.regent_tree.specs.declared.typing.StaticType.{StaticType}
+use Rattle.regent_tree.specs.declared.typing.StaticType.TheVariants.{Index as index_type, Integer as integer_type, Truth as truth_type}
+use Rattle.code_rules.specs.Instructions.{keeps_number}
+use Rattle.fit_rules.specs.Shapes.{index, numeric_index, numeric_integer, numeric_truth}
+use Rattle.code_laws.proofs.Accesses.{index_fits}
+use Rattle.sound_code.specs.Ways.{shape_of}
+use Rattle.sound_code.specs.Named.{slot_shape}
+use Rattle.sound_code.proofs.SlotShapes.{slot_is}
 use Rattle.sound_code.specs.Named.{slot_at, Ready, loops_in, ReadyAt}
 use Rattle.sound_code.specs.Ways.{Way}
 use Rattle.sound_code.proofs.Narrowing.{set_kept}
@@ -33,10 +44,12 @@ use Rattle.regent_tree.specs.Syntax.{Name}
 pub data IsBare : Shape → Type 0 where
   bare_number : (a : Shape) → Numeric a → IsBare a
   bare_space : IsBare space
+  bare_awaited : (a : Shape) → Numeric a → IsBare (awaited a)
 
 bare_plain : (a : Shape) → IsBare a → IsPlain a
 bare_plain _ (bare_number a n) = numeric_plain a n
 bare_plain _ bare_space = tt
+bare_plain _ (bare_awaited a n) = tt
 
 -- so these stay where such values are put for such
 no_region : (x : World) (a : Shape) (v : Value) → IsBare a → Is x a v → (region_in (Some v) ≡ None) × (partition_in (Some v) ≡ None)
@@ -44,8 +57,28 @@ no_region x _ _ (bare_number _ (numeric_integer w)) (is_number _ z h) = (refl, r
 no_region x _ _ (bare_number _ numeric_truth) (is_number _ z h) = (refl, refl)
 no_region x _ _ (bare_number _ numeric_index) (is_number _ z h) = (refl, refl)
 no_region x _ _ (bare_number _ (numeric_pointer n)) (is_number _ z h) = (refl, refl)
+no_region x _ _ (bare_awaited a n) (is_number _ z h) = (refl, refl)
+no_region x _ _ (bare_awaited a n) (is_pending _ i l f) = (refl, refl)
 no_region x _ _ bare_space (is_space n l) = (refl, refl)
 no_region x _ _ bare_space (is_number _ z h) = absurd h
+
+-- a result is of a slot's shape where its number is one of the type as it is
+pub kept_is : (x : World) (a u : StaticType) → keeps_number a u ≡ true → (v : Value) → Is x (awaited (shape_of a)) v → Is x (slot_shape false (shape_of u)) v
+kept_is x (integer_type W32) (integer_type W32) e v h = h
+kept_is x (integer_type W64) (integer_type W64) e v h = h
+kept_is x truth_type truth_type e v h = h
+kept_is x (index_type j) (index_type k) e v h = h
+kept_is x (integer_type w) (index_type k) e _ (is_number _ z p) = is_number (awaited index) z (index_fits w z p)
+kept_is x (integer_type w) (index_type k) e _ (is_pending _ i l f) = is_pending index i l (λ z p. index_fits w z (f z p))
+kept_is x _ _ e v h = absurd (false≢true e)
+
+kept_slot_bare : (a u : StaticType) → keeps_number a u ≡ true → IsBare (slot_shape false (shape_of u))
+kept_slot_bare (integer_type W32) (integer_type W32) e = bare_awaited _ (numeric_integer W32)
+kept_slot_bare (integer_type W64) (integer_type W64) e = bare_awaited _ (numeric_integer W64)
+kept_slot_bare truth_type truth_type e = bare_awaited _ numeric_truth
+kept_slot_bare (index_type j) (index_type k) e = bare_awaited _ numeric_index
+kept_slot_bare (integer_type w) (index_type k) e = bare_awaited _ numeric_index
+kept_slot_bare _ _ e = absurd (false≢true e)
 
 same_parts : (x : World) (ss : List Shape) (vs : List Value) (s : ℕ) (a : Shape) (v : Value) → IsBare a → Are x ss vs →
     slice_get ss s ≡ Some a → Is x a v → s < length ss → (i : ℕ) → SameParts vs (slice_set vs s v) i
@@ -128,6 +161,42 @@ module _ (g : Program) (t : TaskCode) (k : ℕ) where
   pub fixing : (m n : Mark) (l : ℕ) (p : Piece) → Marked m p (stacked n []) → Marked m p (stacked (fixed_to l n) [])
   fixing m n l p f = into f (λ x vs st q.
       record { slots = q.slots; stack = none_held _ _ st q.stack; facts = q.facts; top = tt; args = q.args }) refl
+
+  -- a result that may be pending, in the slot of a number of which it is one as it is
+  pub keeping_call : (m : Mark) (s : ℕ) (a u : StaticType) (line : ℕ) → keeps_number a u ≡ true → KeepsNumber m s →
+      s < length m.slots → slice_get m.slots s ≡ Some (slot_shape false (shape_of u)) →
+      Marked (stacked m (awaited (shape_of a) ∷ [])) (op (instr.Store s) line) (stacked m [])
+  keeping_call m s a u line keeps kept hi e = record {
+    marks = _;
+    is = typed_op _ _ _ line (leads_storing (stacked m (awaited (shape_of a) ∷ [])) (stacked m []) s (awaited (shape_of a)) [] refl hi
+        (λ x vs st v q.
+        let is = kept_is x a u keeps v (plain_held (around x m vs) x.held (awaited (shape_of a)) v tt (are_first (around x m vs) (awaited (shape_of a)) [] v st q.stack)) in
+        let same = same_parts x m.slots vs s (slot_shape false (shape_of u)) v (kept_slot_bare a u keeps) q.slots e is hi in record {
+          slots = set_kept x m.slots vs s (slot_shape false (shape_of u)) v q.slots e is;
+          stack = none_held _ _ st (are_others (around x m vs) (awaited (shape_of a)) [] v st q.stack);
+          facts = kept vs v same q.facts;
+          top = tt;
+          args = λ i l. (same i).0 ∙ q.args i l;
+        }) refl);
+  }
+
+  -- the same in a slot in which a child may be pending
+  pub keeping_slot : (m : Mark) (s : ℕ) (c : Bool) (a : Shape) (line : ℕ) → KeepsNumber m s → IsBare a → IsBare (slot_shape c a) →
+      s < length m.slots → slice_get m.slots s ≡ Some (slot_shape c a) →
+      Marked (stacked m (a ∷ [])) (op (instr.Store s) line) (stacked m [])
+  keeping_slot m s c a line kept na nb hi e = record {
+    marks = _;
+    is = typed_op _ _ _ line (leads_storing (stacked m (a ∷ [])) (stacked m []) s a [] refl hi
+        (λ x vs st v q.
+        let is = slot_is x c a v (plain_held (around x m vs) x.held a v (bare_plain a na) (are_first (around x m vs) a [] v st q.stack)) in
+        let same = same_parts x m.slots vs s (slot_shape c a) v nb q.slots e is hi in record {
+          slots = set_kept x m.slots vs s (slot_shape c a) v q.slots e is;
+          stack = none_held _ _ st (are_others (around x m vs) a [] v st q.stack);
+          facts = kept vs v same q.facts;
+          top = tt;
+          args = λ i l. (same i).0 ∙ q.args i l;
+        }) refl);
+  }
 
   -- a number in the place of a number, or an index space in that of one, where nothing else stands on the stack
   pub keeping : (m : Mark) (s : ℕ) (a : Shape) (line : ℕ) → KeepsNumber m s → IsBare a →

@@ -20,7 +20,7 @@ use Rattle.code_rules.specs.Initializers.{names_child, plain_code}
 use Rattle.code_rules.specs.Expressions.{expr_code}
 use Rattle.code_rules.specs.Pieces.{◌⨟◌, op}
 use Rattle.code_rules.specs.Slots.{beside, bound, slot_named, spare, typed, Where}
-use Rattle.code_rules.specs.Statements.{after_form, form_code}
+use Rattle.code_rules.specs.Statements.{begun_form, after_form, form_code}
 use Rattle.code_laws.specs.Pointers.{a_pointer_type, AreThere, IsPointer}
 use Rattle.code_laws.specs.Simple.{a_region_type, IsRegion, IsSimple, simple_index, simple_integer, simple_space, simple_truth}
 use Rattle.code_laws.specs.Standing.{Stands}
@@ -33,6 +33,23 @@ use Rattle.fit_rules.specs.Marks.{Mark, stacked}
 use Rattle.fit_rules.specs.Fits.{Program}
 use Rattle.fit_rules.specs.Sound.{does_load, settled_number, settled_region}
 use Rattle.fit_laws.proofs.Keeping.{get_other, get_set, set_mark}
+use Rattle.std.proofs.Common.{nat_lt}
+use Rattle.std.proofs.Common.{Bool, false, true}
+use Rattle.std.proofs.lemmas.Bool.{le-ltb}
+use Rattle.regent_tree.specs.Syntax.{Expressions, call_expr}
+use Rattle.code_rules.specs.Initializers.{new_place}
+use Rattle.code_rules.specs.Instructions.{keeps_number}
+use Rattle.code_rules.specs.Slots.{slot}
+use Rattle.code_rules.specs.Statements.{put_call}
+use Rattle.code_laws.specs.Pointers.{HasZero, zero_index, zero_scalar}
+use Rattle.code_laws.specs.Simple.{scalar_integer, scalar_truth}
+use Rattle.fit_rules.specs.Shapes.{awaited}
+use Rattle.sound_code.proofs.Combining.{kept_is}
+use Rattle.sound_code.proofs.Expressions.{call_left}
+use Rattle.sound_code.proofs.Statements.{bind_by}
+use Rattle.sound_code.proofs.Placing.{named_as}
+use Rattle.sound_code.proofs.SlotShapes.{partition_plain, pointer_plain, region_plain, slot_bare, slot_is, slot_numbered, slot_plain}
+use Rattle.sound_code.specs.Named.{name_shape, slot_shape}
 use Rattle.sound_code.specs.Named.{HasPartBeside, HasSlots, IsNumbered, Ready, slot_at, loops_in}
 use Rattle.sound_code.proofs.Plain.{plain_origin}
 use Rattle.sound_code.proofs.WholeTasks.{is_value, is_whole_expression}
@@ -105,10 +122,16 @@ module _ (forms : Forms) (w : Where) where
   begun_copy b e h f c = ⊎_elim (λ s. absurd (simple_no_child (typed w e) s c))
       (λ p. ⊎_elim (λ q. inl (pointing_copy e p.0 q f c)) (λ q. inr q) p.1) (keepable b w e h)
 
+-- a number names no child
+zero_no_child : (u : StaticType) → HasZero u → NamesNoChild u
+zero_no_child _ (zero_scalar _ (scalar_integer w)) = refl
+zero_no_child _ (zero_scalar _ scalar_truth) = refl
+zero_no_child _ (zero_index k) = refl
+
 -- ---- a name with a part beside it
 
 named_part : (way : Way) (params : ℕ) (bs : List Bound) (m : Mark) (b : Bound) (D V : Shape) → Ready way params bs m → slot_at params (length bs) + 2 < length m.slots →
-    b.place ≡ length bs → shape_in way params b.static_type ≡ V → IsNumbered (b ∷ bs) D → IsNumbered (b ∷ bs) V →
+    b.place ≡ length bs → name_shape way params b ≡ V → IsNumbered (b ∷ bs) D → IsNumbered (b ∷ bs) V →
     ((ss : List Shape) → slice_get ss (slot_at params (length bs) + 2) ≡ Some D → HasPartBeside way params ss bs b.place b.static_type) →
     Ready way params (b ∷ bs) (fixed_to (slot_at params (suc (length bs))) (set_mark (set_mark m (slot_at params (length bs) + 2) D []) (slot_at params (length bs)) V []))
 named_part way params bs m b D V r hi e es nd nv stood =
@@ -168,7 +191,7 @@ module _ (g : Program) (t : TaskCode) (k slots : ℕ) (have : HasSlots t slots) 
             (storing g t k m be D D us w.line (behind_kept way w.params bs m be r (omega arith)) (omega (arith, high, asked.params)) (omega (arith, r.fixed)) (plain_origin way w.params (term.Name (parent_of (bound_as bs p).static_type))) hi (λ z v i. i))))
             (storing g t k first va (pointer n) (pointer n) [] w.line (behind_kept way w.params bs m va r (omega arith)) (omega (arith, high, asked.params))
             (omega (arith, r.fixed)) tt (omega (arith, hi, length-set m.slots be D)) (λ z v i. i)));
-        ready = named_part way w.params bs m (Named x (pointer_type c sp args (Some (term.Child p d) ∷ rs))) D (pointer n) r hi refl refl
+        ready = named_part way w.params bs m (Named x (pointer_type c sp args (Some (term.Child p d) ∷ rs))) D (pointer n) r hi refl (slot_plain (nat_lt (length bs) w.params) (pointer n) refl)
             (numbered_more bs (Named x (pointer_type c sp args (Some (term.Child p d) ∷ rs))) D number) tt (λ ss e. record {
               behind = r.low;
               is_partition = h.is_partition;
@@ -190,10 +213,10 @@ module _ (g : Program) (t : TaskCode) (k slots : ℕ) (have : HasSlots t slots) 
   copied_marked : (x : Name) (e : Expression) → IsCopy w e → names_child (reaches_of (typed w e)) ≡ true → IsWorth (typed w e) →
       Scoped forms.keeps way (Named x (owned w.scope.next (typed w e)) ∷ w.scope.names) →
       Cut forms.keeps way w.tree w.params m.facts (Named x (owned w.scope.next (typed w e)) ∷ w.scope.names) → (pc : ℕ) →
-      Stands t.body pc (form_code w (var_form x None (Some (plain_initializer e)))) →
-      Followed g t k forms.keeps way w.tree w.params (Named x (owned w.scope.next (typed w e)) ∷ w.scope.names) m (form_code w (var_form x None (Some (plain_initializer e))))
+      Stands t.body pc (begun_form w None (Some (plain_initializer e))) →
+      Followed g t k forms.keeps way w.tree w.params (Named x (owned w.scope.next (typed w e)) ∷ w.scope.names) m (begun_form w None (Some (plain_initializer e)))
   copied_marked x _ (is_copy y falls goes there) child worth scoped cut pc st = copy_marked x y (bound w y).static_type goes child
-      (named_at way w.params m.slots w.scope.names y asked.ready.named there ∙ ap Some (worth_named way w.params _ worth))
+      (named_as way w.params m.slots w.scope.names y asked.ready.named there (pointer_plain way w.params _ goes) ∙ ap Some (worth_named way w.params _ worth))
       (part_named way w.params m.slots w.scope.next w.scope.names y falls asked.ready.beside there) scoped cut pc st.0
 
   -- a pointer into a part, which was put aside where it stands beside the new name
@@ -219,7 +242,7 @@ module _ (g : Program) (t : TaskCode) (k slots : ℕ) (have : HasSlots t slots) 
         is = fixing g t k _ (set_mark first va V []) _ _ (both g t k (both g t k f (nothing_done g t k _))
             (storing g t k first va V V [] w.line (behind_kept way w.params bs m va r (omega arith)) (omega (arith, high, asked.params))
             (omega (arith, r.fixed)) tt (omega (arith, hi, length-set m.slots be D)) (λ z v i. i)));
-        ready = named_part way w.params bs m (Named x u) D V r hi refl refl (numbered_more bs (Named x u) D number) tt stood;
+        ready = named_part way w.params bs m (Named x u) D V r hi refl (slot_plain (nat_lt (length bs) w.params) V refl) (numbered_more bs (Named x u) D number) tt stood;
         narrower = narrow_set (slice_set m.slots be D) m.slots va _ (narrow_set m.slots m.slots be D (narrow_itself m.slots) (inl (r.free be (omega arith) hi)))
             (inl (r.free va (omega arith) (omega (arith, hi))));
         facts = λ l a. a;
@@ -236,7 +259,7 @@ module _ (g : Program) (t : TaskCode) (k slots : ℕ) (have : HasSlots t slots) 
       Scoped forms.keeps way (Named x (owned w.scope.next (typed w y)) ∷ w.scope.names) →
       Cut forms.keeps way w.tree w.params m.facts (Named x (owned w.scope.next (typed w y)) ∷ w.scope.names) → (pc : ℕ) →
       Stands t.body pc (expr_code w 0 y) →
-      Followed g t k forms.keeps way w.tree w.params (Named x (owned w.scope.next (typed w y)) ∷ w.scope.names) m (form_code w (var_form x None (Some (plain_initializer y))))
+      Followed g t k forms.keeps way w.tree w.params (Named x (owned w.scope.next (typed w y)) ∷ w.scope.names) m (begun_form w None (Some (plain_initializer y)))
   element_marked x (access_expr n (at_step e (at_step i no_step))) is f whole told scoped cut pc st =
       let y = access_expr n (at_step e (at_step i no_step)) in
       let bs = w.scope.names in
@@ -254,8 +277,8 @@ module _ (g : Program) (t : TaskCode) (k slots : ℕ) (have : HasSlots t slots) 
 
   pub begun_marked : (x : Name) (e : Expression) → ToldForm way w.tree w.scope (var_form x None (Some (plain_initializer e))) → IsKeepable forms.keeps w e → IsTyped forms w e →
       Asks forms.keeps (is_value true (owned w.scope.next (typed w e)) && is_whole_expression true w e) → (pc : ℕ) →
-      Stands t.body pc (form_code w (var_form x None (Some (plain_initializer e)))) →
-      Followed g t k forms.keeps way w.tree w.params (after_form w (var_form x None (Some (plain_initializer e)))).scope.names m (form_code w (var_form x None (Some (plain_initializer e))))
+      Stands t.body pc (begun_form w None (Some (plain_initializer e))) →
+      Followed g t k forms.keeps way w.tree w.params (after_form w (var_form x None (Some (plain_initializer e)))).scope.names m (begun_form w None (Some (plain_initializer e)))
   begun_marked x e told keep typing whole pc st =
       let form = var_form x None (Some (plain_initializer e)) in
       let inside = asks_second forms.keeps _ (is_whole_expression true w e) whole in
@@ -279,3 +302,34 @@ module _ (g : Program) (t : TaskCode) (k slots : ℕ) (have : HasSlots t slots) 
       (plain_marked g t k slots have forms way w m asked (typed w e) e w.scope.next _ _ is none
       (value_marked g t k slots have forms way w m asked e [] typing inside heads pc stands))
       (stored g t k slots have forms way w m asked _ _ st.1)) (either (names_child (reaches_of (typed w e))))
+
+  -- a variable that begins with a call's result as it comes
+  pub begun_called : (x : Name) (task : Name) (args : Expressions) → ToldForm way w.tree w.scope (var_form x None (Some (plain_initializer (call_expr task args)))) →
+      IsKeepable forms.keeps w (call_expr task args) → IsTyped forms w (call_expr task args) →
+      Asks forms.keeps (is_value true (owned w.scope.next (typed w (call_expr task args))) && is_whole_expression true w (call_expr task args)) →
+      keeps_number (typed w (call_expr task args)) (owned w.scope.next (typed w (call_expr task args))) ≡ true → (pc : ℕ) →
+      Stands t.body pc (put_call w (slot w (new_place w)) task args) →
+      Followed g t k forms.keeps way w.tree w.params (after_form w (var_form x None (Some (plain_initializer (call_expr task args))))).scope.names m (put_call w (slot w (new_place w)) task args)
+  begun_called x task args told keep typing whole keeps pc st =
+      let e = call_expr task args in
+      let form = var_form x None (Some (plain_initializer e)) in
+      let inside = asks_second forms.keeps _ (is_whole_expression true w e) whole in
+      let is = kept_of forms.keeps w e keep in
+      let worth = begun_worth forms.keeps w e w.scope.next keep (asks_first _ _ _ whole) in
+      let u = owned w.scope.next (typed w e) in
+      let same = owned_same w.scope.next (typed w e) is in
+      let b = Named x u in
+      let scoped = scoped_bound forms.keeps way w.tree w.scope form b refl told asked.scoped
+      (λ all. begun_scoped forms w all forms.keeps e w.scope.next keep typing) in
+      let cut = cut_plain forms.keeps way w.tree w.scope form b w.params m.facts m.facts refl told (λ l h. h) asked.cut
+      (subst IsNoCut (sym same) (worth_no_partition (typed w e) worth)) in
+      let heads = told_plain way forms w e typing inside (told_heads w.tree w.scope way form told) in
+      let still : nat_lt (length w.scope.names) w.params ≡ false = le-ltb (length w.scope.names) w.params asked.ready.low in
+      bind_by g t k slots have forms way w m asked x (awaited (shape_of (typed w e))) u (put_call w (slot w (new_place w)) task args)
+      (λ y v h. subst (λ c. Is y (slot_shape c (shape_in way w.params u)) v) (sym still)
+      (subst (λ s. Is y (slot_shape false s) v) (sym (ap (shape_in way w.params) same ∙ worth_named way w.params _ worth))
+      (kept_is y (typed w e) (typed w e) (subst (λ z. keeps_number (typed w e) z ≡ true) same keeps) v h)))
+      (subst (λ y. IsNumbered (b ∷ w.scope.names) (shape_in way w.params y)) (sym same) (worth_numbered way w.params (b ∷ w.scope.names) (typed w e) worth))
+      scoped cut (subst NamesNoChild (sym same) (zero_no_child (typed w e) typing.1))
+      (λ o h. call_left g t k slots have forms way w m asked task args [] typing inside heads pc st.0 _ o h)
+      (stored g t k slots have forms way w m asked _ _ st.1.1)

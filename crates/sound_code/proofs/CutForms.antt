@@ -31,6 +31,13 @@ use Rattle.code_laws.specs.Typed.{IsDifference, IsScanned, IsTyped}
 use Rattle.fit_laws.proofs.Keeping.{set_mark}
 use Rattle.fit_laws.proofs.Lookup.{each_among}
 use Rattle.lane_kernels.specs.declared.numbers.Mode.TheVariants as mode
+use Rattle.std.proofs.Common.{nat_lt, suc}
+use Rattle.code_rules.specs.Statements.{begun_form}
+use Rattle.sound_code.specs.Named.{Ready}
+use Rattle.sound_code.proofs.Combining.{fixed_to}
+use Rattle.sound_code.proofs.Placing.{named_as}
+use Rattle.sound_code.proofs.SlotShapes.{partition_plain, pointer_plain, region_plain, slot_bare, slot_is, slot_numbered, slot_plain}
+use Rattle.sound_code.specs.Named.{name_shape, slot_shape}
 use Rattle.sound_code.proofs.Grounds.{Ground, OfType}
 use Rattle.fit_rules.specs.Shapes.{Among, partition, Shape, space}
 use Rattle.fit_rules.specs.Marks.{Holds, Mark, parted, stacked, topped, top_parted}
@@ -77,7 +84,9 @@ module _ (g : Program) (t : TaskCode) (k slots : ℕ) (have : HasSlots t slots) 
       let b = new_name g t k slots have forms way w m asked n u in
       let low = place_as way w.params m.slots names r ready.named region in
       let lower : slot_bound w r < slot = omega (arith, low) in
-      let plain = named_more way w.params names m b ready hi refl tt refl in
+      let c = nat_lt (length names) w.params in
+      let plain = subst (λ y. Ready way w.params (b ∷ names) (fixed_to (slot_at w.params (suc (length names))) (set_mark m slot y []))) (slot_plain c (partition None e) refl)
+      (named_more way w.params names m b ready hi refl (slot_numbered (b ∷ names) c (partition None e) tt) refl) in
       record {
         next = fixed_to (slot_at w.params (suc (length names))) (knowing (parted slot s) (set_mark m slot (partition None e) []));
         is = fixing g t k _ (knowing (parted slot s) (set_mark m slot (partition None e) [])) _ _ (both g t k f (storing_cut g t k w.line m s slot (partition sp d) (partition None e) (behind_kept way w.params names m slot ready (omega arith))
@@ -127,7 +136,7 @@ module _ (g : Program) (t : TaskCode) (k slots : ℕ) (have : HasSlots t slots) 
 
   parent_there : (n : Name) → IsParent w n → HasRegion m (Some (space_in (bound w n).static_type)) (slot_named w n)
   parent_there n p = region_named way w.params m (slot_named w n) (bound w n).static_type p.region
-      (named_at way w.params m.slots w.scope.names n asked.ready.named p.named)
+      (named_as way w.params m.slots w.scope.names n asked.ready.named p.named (region_plain way w.params _ p.region))
 
   -- a name's region that has a parameter's number stands in its place
   placed_of : (v : Way) → IsByRules v → (r : Name) → InPlace v w.params (bound w r).place (bound w r).static_type →
@@ -179,7 +188,7 @@ module _ (g : Program) (t : TaskCode) (k slots : ℕ) (have : HasSlots t slots) 
       Allowed g t (stacked m us) (space_in (bound w r).static_type) (field_place w.tree (space_in (bound w r).static_type) l) mode.Read (slot_named w r)
   scanned x r l init us h may = allowed g t w.tree w.params w.scope m asked.params way asked.known asked.ground asked.facts (bound w r).static_type (bound w r).place
       (field_place w.tree (space_in (bound w r).static_type) l) access.Read us h.parent.region
-      (named_at way w.params m.slots w.scope.names r asked.ready.named h.parent.named)
+      (named_as way w.params m.slots w.scope.names r asked.ready.named h.parent.named (region_plain way w.params _ h.parent.region))
       (placed_at t way w.tree w.params w.scope r asked.ground h.parent.named) h.field may
 
   pub by_field_marked : (x : Name) (said : Option TypeTerm) (c : Bool) (r l : Name) (e : Expression) →
@@ -276,14 +285,16 @@ module _ (g : Program) (t : TaskCode) (k slots : ℕ) (have : HasSlots t slots) 
 
   pub minus_said : (x : Name) (st : TypeTerm) (e : Expression) → ToldForm way w.tree w.scope (var_form x (Some st) (Some (plain_initializer e))) → forms.keeps ≡ true →
       IsDifference w e → IsLike (var_type w.tree w.scope (Some st) (Some (plain_initializer e))) (initializer_type w.tree w.scope w.scope.next (plain_initializer e)) →
-      HasRoom → Binds (var_form x (Some st) (Some (plain_initializer e)))
+      HasRoom →
+      Followed g t k forms.keeps way w.tree w.params (after_form w (var_form x (Some st) (Some (plain_initializer e)))).scope.names m (begun_form w (Some st) (Some (plain_initializer e)))
   minus_said x st (chain_expr (access_expr p no_step) (a_link (Compute Subtract) (access_expr q no_step) no_link)) told keeps pair like room =
       minus_like x st p q (bound w p).static_type (bound w q).static_type told pair.first.partition (cut_of p keeps pair.first) refl
       (subst (IsOf q) (sym pair.parents) (cut_of q keeps pair.second)) room like
   minus_said x st _ told keeps d like room = absurd d
 
   pub minus_marked : (x : Name) (e : Expression) → ToldForm way w.tree w.scope (var_form x None (Some (plain_initializer e))) → forms.keeps ≡ true →
-      IsDifference w e → HasRoom → Binds (var_form x None (Some (plain_initializer e)))
+      IsDifference w e → HasRoom →
+      Followed g t k forms.keeps way w.tree w.params (after_form w (var_form x None (Some (plain_initializer e)))).scope.names m (begun_form w None (Some (plain_initializer e)))
   minus_marked x (chain_expr (access_expr p no_step) (a_link (Compute Subtract) (access_expr q no_step) no_link)) told keeps pair room =
       minus_by x p q (bound w p).static_type (bound w q).static_type told pair.first.partition (cut_of p keeps pair.first) refl
       (subst (IsOf q) (sym pair.parents) (cut_of q keeps pair.second)) room

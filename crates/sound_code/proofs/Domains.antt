@@ -33,6 +33,9 @@ use Rattle.fit_rules.specs.Shapes.{Are, are_more, index, is_number, is_region as
 use Rattle.fit_rules.specs.Marks.{Mark, stacked}
 use Rattle.fit_rules.specs.Fits.{Program}
 use Rattle.fit_rules.specs.Sound.{does_load, settled_region}
+use Rattle.sound_code.proofs.Placing.{named_as}
+use Rattle.sound_code.proofs.SlotShapes.{partition_plain, pointer_plain, region_plain, slot_bare, slot_is, slot_numbered, slot_plain}
+use Rattle.sound_code.specs.Named.{name_shape, slot_shape}
 use Rattle.sound_code.specs.Named.{HasPartBeside, HasSlots, IsNumbered, IsOfNumber, IsPartBeside, parent_as, slot_at}
 use Rattle.sound_code.proofs.WholeTasks.{is_whole_domain, is_whole_expression, names_region, takes_part}
 use Rattle.sound_code.specs.Ways.{origin_in, shape_in, shape_of, Way}
@@ -233,7 +236,7 @@ module _ (g : Program) (t : TaskCode) (k slots : ℕ) (have : HasSlots t slots) 
         taken = takes_pointers way w.params w.scope.names (bound w x).static_type unknown r.0 tt tt
             (λ ss there. named_beside way w.params w.scope.names w (access_expr x no_step) r ss);
         is = region_domain (bound w x).static_type r.0 tt _ tt _ (both g t k
-            (loaded (slot_named w x) (bound w x).static_type r.0 (named_at way w.params m.slots w.scope.names x asked.ready.named f.0)) (nothing_done g t k _));
+            (loaded (slot_named w x) (bound w x).static_type r.0 (named_as way w.params m.slots w.scope.names x asked.ready.named f.0 (region_plain way w.params _ r.0))) (nothing_done g t k _));
       }
       of_region _ f r = absurd r
   domain_marked e (inr p) whole told pc st = of_part e p.0 p.1 whole told pc st

@@ -1,4 +1,12 @@
 -- The code of expressions has marks: each leads from a mark to the same with a value on the stack.
+use Rattle.fit_rules.specs.Marks.{ColoursStand}
+use Rattle.fit_rules.specs.Shapes.{Each, index, integer, numeric_index, numeric_integer, numeric_truth, truth}
+use Rattle.std.proofs.Common.{slice_get}
+use Rattle.code_rules.specs.Expressions.{count}
+use Rattle.sound_code.proofs.Wholes.{IsWorth, worth_pointer, worth_simple}
+use Rattle.sound_code.proofs.Placing.{named_as}
+use Rattle.sound_code.proofs.SlotShapes.{partition_plain, pointer_plain, region_plain, slot_bare, slot_is, slot_numbered, slot_plain}
+use Rattle.sound_code.specs.Named.{is_still, name_shape, slot_shape}
 use Rattle.sound_code.proofs.Plain.{plain_shape}
 use Rattle.sound_code.proofs.Parts.{child_code, coloured, cut_code, part_regions}
 use Rattle.code_laws.specs.Arguments.{IsCutName}
@@ -23,7 +31,7 @@ use Rattle.machine_terms.specs.Jumps.{fetch}
 use Rattle.code_rules.specs.Pieces.{Piece, ◌⨟◌, line_of, over}
 use Rattle.code_rules.specs.Expressions.{expr_code, exprs_code, links_code}
 use Rattle.code_rules.specs.Instructions.{converted_code, signs_code, standing_code, one, place_of_task}
-use Rattle.code_rules.specs.Slots.{Where, bound, spare, typed, slot_named}
+use Rattle.code_rules.specs.Slots.{Where, bound, result, spare, typed, slot_named}
 use Rattle.code_laws.specs.Simple.{IsSimple, simple_integer, simple_truth, simple_space, simple_index, IsInteger, an_integer, IsTruth, a_truth_type, IsScalar, scalar_integer, SignsFit, of_a_truth, of_an_integer, not_before, minus_before, AreRegions, IsPartition}
 use Rattle.code_laws.specs.Standing.{Stands}
 use Rattle.code_laws.specs.Steps.{Forms}
@@ -60,7 +68,7 @@ use Rattle.sound_code.proofs.Calling.{onto, scalar_numeric, zero_numeric}
 use Rattle.sound_code.proofs.Combining.{Marked, nothing_done, both, does, into, behind_kept, slot_high, storing}
 use Rattle.sound_code.proofs.Elements.{reads}
 use Rattle.sound_code.proofs.Further.{behind_further, point_further, told_point}
-use Rattle.sound_code.proofs.PartElements.{asked_put, element_put, part_space, part_put, put_away, put_fields, put_mark, put_room, spare_free, told_first, told_second}
+use Rattle.sound_code.proofs.PartElements.{asked_put, element_put, part_space, part_put, put_away, put_fields, put_mark, put_room, result_free, told_first, told_second}
 use Rattle.sound_code.proofs.Narrowing.{narrow_itself, narrow_set, narrow_over, same_facts}
 use Rattle.fit_laws.proofs.Numbers.{truth_is}
 
@@ -172,7 +180,7 @@ module _ (g : Program) (t : TaskCode) (k slots : ℕ) (have : HasSlots t slots) 
       Allowed g t (stacked m us) (space_in (bound w n).static_type) (field_place w.tree (space_in (bound w n).static_type) f) (mode_of a) (slot_named w n)
   touched n f out a field may us = allowed g t w.tree w.params w.scope m asked.params way asked.known asked.ground asked.facts
       (bound w n).static_type (bound w n).place (field_place w.tree (space_in (bound w n).static_type) f) a us field.region
-      (named_at way w.params m.slots w.scope.names n asked.ready.named field.named) (placed_at t way w.tree w.params w.scope n asked.ground field.named)
+      (named_as way w.params m.slots w.scope.names n asked.ready.named field.named (region_plain way w.params _ field.region)) (placed_at t way w.tree w.params w.scope n asked.ground field.named)
       field.field may
 
   -- a part is left on the stack, as the child by its colour, which lies within the region of which its partition is
@@ -198,6 +206,22 @@ module _ (g : Program) (t : TaskCode) (k slots : ℕ) (have : HasSlots t slots) 
       (subst (λ s. Goes us (expr_code w d (access_expr n no_step)) (s ∷ us)) (sym (cut_handed way w n p is ∙ given_cut_is way w (bound w n).static_type named.partition))
       (cut_code g t k slots forms way w m asked n keeps named d us))
 
+-- a name's value is loaded, and waited for where it may be pending
+pub worth_loaded : (g : Program) (t : TaskCode) (k : ℕ) (w : Where) (m : Mark) (s : ℕ) (c : Bool) (u : StaticType) (us : List Shape) → IsWorth u →
+    Each (ColoursStand m.slots) m.facts → slice_get m.slots s ≡ Some (slot_shape c (shape_of u)) →
+    Marked g t k (stacked m us) (one w (instr.Load s)) (stacked m (shape_of u ∷ us))
+worth_loaded g t k w m s true u us is stand h = does g t k _ (instr.Load s) w.line _ (does_load _ _ us h (worth_settled _ is) (plain_shape _))
+worth_loaded g t k w m s false _ us (worth_simple _ (simple_integer v)) stand h =
+    record { marks = _; is = typed_op _ _ _ w.line (leads_waiting (stacked m us) s (integer v) h (numeric_integer v) stand) }
+worth_loaded g t k w m s false _ us (worth_simple _ simple_truth) stand h =
+    record { marks = _; is = typed_op _ _ _ w.line (leads_waiting (stacked m us) s truth h numeric_truth stand) }
+worth_loaded g t k w m s false _ us (worth_simple _ (simple_index c)) stand h =
+    record { marks = _; is = typed_op _ _ _ w.line (leads_waiting (stacked m us) s index h numeric_index stand) }
+worth_loaded g t k w m s false _ us (worth_simple _ (simple_space c)) stand h =
+    does g t k _ (instr.Load s) w.line _ (does_load _ _ us h (worth_settled _ (worth_simple _ (simple_space c))) tt)
+worth_loaded g t k w m s false _ us (worth_pointer c sp args rs few) stand h =
+    does g t k _ (instr.Load s) w.line _ (does_load _ _ us h (worth_settled _ (worth_pointer c sp args rs few)) tt)
+
 module _ (g : Program) (t : TaskCode) (k slots : ℕ) (have : HasSlots t slots) (forms : Forms) (way : Way) (w : Where) where
   abbrev GoesAt : Mark → List Shape → Piece → List Shape → Type 0
   GoesAt m us p vs = Marked g t k (stacked m us) p (stacked m vs)
@@ -209,12 +233,13 @@ module _ (g : Program) (t : TaskCode) (k slots : ℕ) (have : HasSlots t slots) 
     expr_at m asked d within (truth_expr b) us fine whole told pc st = does g t k _ (instr.Num (kept_truth b)) w.line _ (does_num _ truth us (truth_is b))
     expr_at m asked d within (access_expr x no_step) us fine whole told pc st =
         let is = read_worth forms.keeps _ fine.1 whole in
-        let h = named_at way w.params m.slots w.scope.names x asked.ready.named fine.0 ∙ ap Some (worth_named way w.params _ is) in
-        both g t k (does g t k _ (instr.Load (slot_named w x)) w.line _ (does_load _ _ us h (worth_settled _ is) (plain_shape _))) (nothing_done g t k _)
+        let h = named_at way w.params m.slots w.scope.names x asked.ready.named fine.0 ∙ ap (λ s. Some (slot_shape (is_still w.params (bound w x)) s)) (worth_named way w.params _ is) in
+        both g t k (worth_loaded g t k w m (slot_named w x) (is_still w.params (bound w x)) (bound w x).static_type us is
+        (steady_stand w.params (length w.scope.names) (loops_in way w.scope.names) _ m.facts asked.ready.facts) h) (nothing_done g t k _)
     expr_at m asked d within (access_expr x (at_step e (field_step f no_step))) us fine whole told pc st =
         let field = any_field forms.keeps w x f _ fine.3 in
         let number = counting forms.keeps _ fine.1 in
-        let h = named_at way w.params m.slots w.scope.names x asked.ready.named field.named in
+        let h = named_as way w.params m.slots w.scope.names x asked.ready.named field.named (region_plain way w.params _ field.region) in
         reads g t k way w m asked.known (bound w x).static_type (bound w x).place e f no_step _ d us _ field.region
         (region_named way w.params m (slot_named w x) (bound w x).static_type field.region h) number fine.2
         (touched g t k slots have forms way w m asked x f _ Read field (may_read w x e f number field.region t way asked.ground told))
@@ -235,7 +260,7 @@ module _ (g : Program) (t : TaskCode) (k slots : ℕ) (have : HasSlots t slots) 
         subst (λ y. GoesAt m us (expr_code w d (call_expr task args)) (y ∷ us)) same
         (both g t k (args_at m asked d within (params_at w.tree w.scope u args) types args us fine.3 whole (told_call w.tree w.scope way task args told) pc st.0)
         (both g t k (calls g t k slots forms way w m asked task (params_at w.tree w.scope u args) args us fine.2 fine.3 whole (told_called w.tree w.scope way task args told))
-        (awaited_marked g t k slots have forms way w m asked (spare w d) (g.results place) us nr (spare_free _ d (slot_at w.params (length w.scope.names)) within) (omega arith) (stored g t k slots have forms way w m asked _ (spare w d) st.1.1.0))))
+        (awaited_marked g t k slots have forms way w m asked (result w d) (g.results place) us nr (result_free w _ d within asked.ready.low) (omega arith) (stored g t k slots have forms way w m asked _ (result w d) st.1.1.0))))
     expr_at m asked d within (convert_expr c e) us fine whole told pc st =
         let number = counting forms.keeps _ fine.1 in
         both g t k (expr_at m asked d within e us fine.0 whole (told_convert w.tree w.scope way c e told) pc st.0)
@@ -246,9 +271,9 @@ module _ (g : Program) (t : TaskCode) (k slots : ℕ) (have : HasSlots t slots) 
     expr_at m asked d within (access_expr x (field_step f no_step)) us fine whole told pc st = ⊎_elim
         (λ a. behind_marked g t k slots forms way w m asked d x f no_step us _ fine.0 a.0 told (nothing_done g t k _)) (λ c.
         colours_marked g t k slots forms way w m asked d x f us (bound w x).static_type (bound w x).place c.partition
-        (named_at way w.params m.slots w.scope.names x asked.ready.named c.named)) fine.1
+        (named_as way w.params m.slots w.scope.names x asked.ready.named c.named (partition_plain way w.params _ c.partition))) fine.1
     expr_at m asked d within (access_expr x (at_step e no_step)) us fine whole told pc st =
-        let h = named_at way w.params m.slots w.scope.names x asked.ready.named fine.3 in
+        let h = named_as way w.params m.slots w.scope.names x asked.ready.named fine.3 (region_plain way w.params _ fine.4) in
         element_at g t k slots forms way w m asked (bound w x).static_type (bound w x).place d e us fine.4
         (region_named way w.params m (slot_named w x) (bound w x).static_type fine.4 h) fine.2
         (λ q s. expr_at m asked d within e us fine.1 (asks_second _ _ _ whole) (told_at w.tree w.scope way x e told) q s) pc st
@@ -264,7 +289,7 @@ module _ (g : Program) (t : TaskCode) (k slots : ℕ) (have : HasSlots t slots) 
     expr_at m asked d within (access_expr x (at_step e (field_step f (field_step l rest)))) us fine whole told pc st =
         let field = any_field forms.keeps w x f _ fine.4 in
         let number = counting forms.keeps _ fine.2 in
-        let h = named_at way w.params m.slots w.scope.names x asked.ready.named field.named in
+        let h = named_as way w.params m.slots w.scope.names x asked.ready.named field.named (region_plain way w.params _ field.region) in
         let first = told_point w.tree w.scope way x e f (field_step l rest) told in
         reads g t k way w m asked.known (bound w x).static_type (bound w x).place e f (field_step l rest) _ d us _ field.region
         (region_named way w.params m (slot_named w x) (bound w x).static_type field.region h) number fine.3
@@ -384,3 +409,18 @@ module _ (g : Program) (t : TaskCode) (k slots : ℕ) (have : HasSlots t slots) 
       ToldArgs way w.tree w.scope es → (pc : ℕ) → Stands t.body pc (exprs_code w d ts es) →
       Marked g t k (stacked m us) (exprs_code w d ts es) (stacked m (onto (all_handed way w ps es) us))
   args_marked d ts ps es us fine whole told pc st = args_at g t k slots have forms way w m asked d (omega arith) ts ps es us fine whole told pc st
+
+  -- a call, whose result may be pending on the stack
+  pub call_left : (task : Name) (args : Expressions) (us : List Shape) → IsTyped forms w (call_expr task args) → Asks forms.keeps (is_whole_expression true w (call_expr task args)) →
+      Told way w.tree w.scope (call_expr task args) → (pc : ℕ) → Stands t.body pc (exprs_code w 0 (params_at w.tree w.scope (task_named w.tree task) args) args) → (p : Piece) (n : Mark) →
+      Marked g t k (stacked m (awaited (shape_of (typed w (call_expr task args))) ∷ us)) p n →
+      Marked g t k (stacked m us) (exprs_code w 0 (params_at w.tree w.scope (task_named w.tree task) args) args
+      ⨟ one w (instr.Call (place_of_task w.tree task) (count args)) ⨟ p) n
+  call_left task args us fine whole told pc st p n f =
+      let u = task_named w.tree task in
+      let place = place_of_task w.tree task in
+      let types = param_types w.tree u in
+      let same = asked.known.results place u fine.2.0 in
+      both g t k (args_at g t k slots have forms way w m asked 0 (omega arith) (params_at w.tree w.scope u args) types args us fine.3 whole (told_call w.tree w.scope way task args told) pc st)
+      (both g t k (calls g t k slots forms way w m asked task (params_at w.tree w.scope u args) args us fine.2 fine.3 whole (told_called w.tree w.scope way task args told))
+      (subst (λ y. Marked g t k (stacked m (awaited y ∷ us)) p n) (sym same) f))

@@ -18,6 +18,9 @@ use Rattle.fit_rules.specs.Marks.{Mark, stacked}
 use Rattle.fit_rules.specs.Fits.{Program}
 use Rattle.fit_rules.specs.Sound.{does_load}
 use Rattle.fit_laws.proofs.Keeping.{get_set, set_mark}
+use Rattle.sound_code.proofs.Placing.{named_as}
+use Rattle.sound_code.proofs.SlotShapes.{partition_plain, pointer_plain, region_plain, slot_bare, slot_is, slot_numbered, slot_plain}
+use Rattle.sound_code.specs.Named.{name_shape, slot_shape}
 use Rattle.sound_code.specs.Named.{AreNamed, HasSlots}
 use Rattle.regent_tree.specs.Accesses.{space_in}
 use Rattle.regent_tree.specs.StaticTypes.{field_place}
@@ -62,7 +65,7 @@ module _ (g : Program) (t : TaskCode) (k slots : ℕ) (have : HasSlots t slots) 
       (both g t k (becomes g t k w o from _ [] (filled_becomes from _ goes) (field_few _ _ _ field.keeps))
       (both g t k (fills g t k way w o asked.known u (slot_named w r) f _ [] is
       (λ us. allowed g t w.tree w.params w.scope o asked.params way asked.known asked.ground a.facts u (bound w r).place
-      (field_place w.tree (space_in u) f) Write us is (named_at way w.params o.slots w.scope.names r a.named b)
+      (field_place w.tree (space_in u) f) Write us is (named_as way w.params o.slots w.scope.names r a.named b (region_plain way w.params _ is))
       (placed_at t way w.tree w.params w.scope r asked.ground b) field.field parts.0) field.keeps)
       (fields_marked o r from fs a there b is h.2 parts.1)))
 

@@ -17,6 +17,18 @@ use Rattle.fit_rules.specs.Fits.{Program}
 use Rattle.fit_rules.specs.Sound.{settled_number, does_load, does_compute, does_compare, does_wrap}
 use Rattle.marked_code.specs.Marked.{typed_if}
 use Rattle.fit_laws.proofs.Keeping.{get_other, get_set, set_mark}
+use Rattle.std.proofs.Common.{◌||◌, nat_lt, Bool, true, false}
+use Rattle.fit_rules.specs.Marks.{ColoursStand}
+use Rattle.fit_rules.specs.Shapes.{Each}
+use Rattle.std.proofs.Common.{List}
+use Rattle.regent_tree.specs.declared.typing.StaticType.TheVariants.{Integer as integer_type}
+use Rattle.sound_code.proofs.Expressions.{worth_loaded}
+use Rattle.sound_code.proofs.Steady.{steady_stand}
+use Rattle.sound_code.proofs.Wholes.{worth_simple}
+use Rattle.sound_code.specs.Named.{loops_in}
+use Rattle.code_laws.specs.Simple.{simple_integer}
+use Rattle.sound_code.proofs.SlotShapes.{partition_plain, pointer_plain, region_plain, slot_bare, slot_is, slot_numbered, slot_plain}
+use Rattle.sound_code.specs.Named.{name_shape, slot_shape}
 use Rattle.sound_code.specs.Ways.{Way}
 use Rattle.lane_kernels.specs.declared.numbers.Op.{Op}
 use Rattle.lane_kernels.specs.declared.numbers.Op.TheVariants.{Greatest, Least, Product, Sum}
@@ -40,7 +52,7 @@ use Rattle.sound_code.proofs.Combining.{named_kept}
 use Rattle.sound_code.proofs.Expressions.{stored}
 use Rattle.sound_code.proofs.Placing.{named_at}
 use Rattle.sound_code.proofs.Narrowing.{narrow_itself, narrow_set, narrow_into, same_facts}
-use Rattle.sound_code.proofs.Combining.{bare_number, KeepsNumber, Marked, both, does, into, behind_kept, keeping, slot_high, storing}
+use Rattle.sound_code.proofs.Combining.{bare_number, KeepsNumber, Marked, both, does, into, behind_kept, IsBare, bare_awaited, keeping_slot, slot_high, storing}
 use Rattle.sound_code.proofs.Looping.{MayStore}
 
 abbrev IsAny : Shape → Type 0
@@ -48,10 +60,23 @@ IsAny anything = Unit {0}
 IsAny _ = ⊥
 
 module _ (g : Program) (t : TaskCode) (k : ℕ) (way : Way) (w : Where) (m : Mark) (r : Ready way w.params w.scope.names m)
-    (ep : w.params ≡ t.params) (s : ℕ) (v : Width) (there : slice_get m.slots s ≡ Some (integer v)) (hi : s < length m.slots)
+    (ep : w.params ≡ t.params) (s : ℕ) (c0 : Bool) (v : Width) (there : slice_get m.slots s ≡ Some (slot_shape c0 (integer v))) (hi : s < length m.slots)
     (kept : KeepsNumber m s) where
   abbrev V : Shape
   V = integer v
+
+  no_any : (c : Bool) → IsAny (slot_shape c (integer v)) → ⊥
+  no_any true h = h
+  no_any false h = h
+
+  bare_slot : (c : Bool) → IsBare (slot_shape c (integer v))
+  bare_slot true = bare_number _ (numeric_integer v)
+  bare_slot false = bare_awaited _ (numeric_integer v)
+
+  -- the old value is loaded, and waited for where it may be pending
+  int_loaded : (o : Mark) (us : List Shape) → slice_get o.slots s ≡ Some (slot_shape c0 (integer v)) → Each (ColoursStand o.slots) o.facts →
+      Marked g t k (stacked o us) (one w (instr.Load s)) (stacked o (integer v ∷ us))
+  int_loaded o us at stand = worth_loaded g t k w o s c0 (integer_type v) us (worth_simple _ (simple_integer v)) stand at
 
   wrap_marked : (a : Shape) → Numeric a → Marked g t k (stacked m (a ∷ [])) (one w (instr.Wrap v)) (stacked m (V ∷ []))
   wrap_marked a n = does g t k (stacked m (a ∷ [])) (instr.Wrap v) w.line (V ∷ []) (does_wrap v a [] n)
@@ -61,11 +86,10 @@ module _ (g : Program) (t : TaskCode) (k : ℕ) (way : Way) (w : Where) (m : Mar
       Marked g t k (stacked m (a ∷ []))
       (one w (instr.Wrap v) ⨟ one w (instr.Load s) ⨟ one w (computing o v) ⨟ one w (instr.Store s)) (stacked m [])
   computed_marked o a n = both g t k (wrap_marked a n)
-      (both g t k (does g t k (stacked m (V ∷ [])) (instr.Load s) w.line (V ∷ V ∷ [])
-      (does_load s V (V ∷ []) there (settled_number V (numeric_integer v)) tt))
+      (both g t k (int_loaded m (V ∷ []) there (steady_stand w.params (length w.scope.names) (loops_in way w.scope.names) _ m.facts r.facts))
       (both g t k (does g t k (stacked m (V ∷ V ∷ [])) (computing o v) w.line (V ∷ [])
       (does_compute o v V V [] (numeric_integer v) (numeric_integer v)))
-      (keeping g t k m s V w.line kept (bare_number V (numeric_integer v)) hi there)))
+      (keeping_slot g t k m s c0 V w.line kept (bare_number V (numeric_integer v)) (bare_slot c0) hi there)))
 
   -- the lesser or the greater of both, by a slot of its own
   module _ (low : spare w 0 < length m.slots) where
@@ -76,9 +100,9 @@ module _ (g : Program) (t : TaskCode) (k : ℕ) (way : Way) (w : Where) (m : Mar
     aside = set_mark m u V []
 
     other : u ≡ s → ⊥
-    other e = subst IsAny (same_Some anything V (sym (r.free u (omega arith) low) ∙ ap (slice_get m.slots) e ∙ there)) tt
+    other e = no_any c0 (subst IsAny (same_Some anything (slot_shape c0 V) (sym (r.free u (omega arith) low) ∙ ap (slice_get m.slots) e ∙ there)) tt)
 
-    kept_there : slice_get aside.slots s ≡ Some V
+    kept_there : slice_get aside.slots s ≡ Some (slot_shape c0 V)
     kept_there = get_other m.slots u s V other ∙ there
 
     aside_there : slice_get aside.slots u ≡ Some V
@@ -93,11 +117,11 @@ module _ (g : Program) (t : TaskCode) (k : ℕ) (way : Way) (w : Where) (m : Mar
         let settled = settled_number V (numeric_integer v) in
         let long : length aside.slots ≡ length m.slots = length-set m.slots u V in
         let taken = both g t k (does g t k (stacked aside []) (instr.Load u) w.line (V ∷ []) (does_load u V [] aside_there settled tt))
-        (keeping g t k aside s V w.line kept (bare_number V (numeric_integer v)) (omega (arith, hi, long)) kept_there) in
+        (keeping_slot g t k aside s c0 V w.line kept (bare_number V (numeric_integer v)) (bare_slot c0) (omega (arith, hi, long)) kept_there) in
         into g t k (both g t k (wrap_marked a n)
         (both g t k (storing g t k m u V V [] w.line (behind_kept way w.params w.scope.names m u r (omega arith)) (omega (arith, slot_high w.params (length w.scope.names) r.low, ep)) (omega (arith, r.fixed)) tt low (λ x y h. h))
         (both g t k (does g t k (stacked aside []) (instr.Load u) w.line (V ∷ []) (does_load u V [] aside_there settled tt))
-        (both g t k (does g t k (stacked aside (V ∷ [])) (instr.Load s) w.line (V ∷ V ∷ []) (does_load s V (V ∷ []) kept_there settled tt))
+        (both g t k (int_loaded aside (V ∷ []) kept_there (steady_stand w.params (length w.scope.names) (loops_in way w.scope.names) _ m.facts r.facts))
         (both g t k (does g t k (stacked aside (V ∷ V ∷ [])) (comparing c false) w.line (truth ∷ [])
         (does_compare c V V [] (numeric_integer v) (numeric_integer v)))
         (record {
@@ -121,8 +145,11 @@ module _ (g : Program) (t : TaskCode) (k slots : ℕ) (have : HasSlots t slots) 
       Marked g t k (stacked m (s ∷ [])) (fold_code w (slot_named w x) o (width_of_type u)) (stacked m [])
   folded w m x o s _ e ns (an_integer v) b free a pc st = by o pc st
     where
-      there : slice_get m.slots (slot_named w x) ≡ Some (integer v)
-      there = named_at way w.params m.slots w.scope.names x a.ready.named b ∙ ap (λ y. Some (shape_in way w.params y)) e
+      c0 : Bool
+      c0 = (bound w x).by_loop || nat_lt (bound w x).place w.params
+
+      there : slice_get m.slots (slot_named w x) ≡ Some (slot_shape c0 (integer v))
+      there = named_at way w.params m.slots w.scope.names x a.ready.named b ∙ ap (λ y. Some (slot_shape c0 (shape_in way w.params y))) e
 
       kept : KeepsNumber m (slot_named w x)
       kept = named_kept way w.params w.scope.names m x a.ready b free
@@ -130,12 +157,12 @@ module _ (g : Program) (t : TaskCode) (k slots : ℕ) (have : HasSlots t slots) 
       by : (o : Op) (pc : ℕ) → Stands t.body pc (fold_code w (slot_named w x) o v) →
           Marked g t k (stacked m (s ∷ [])) (fold_code w (slot_named w x) o v) (stacked m [])
       by Sum pc st = let l = loaded _ (slot_named w x) w.line st.1.0 in
-          computed_marked g t k way w m a.ready a.params (slot_named w x) v there (omega (arith, l, a.room)) kept Add s ns
+          computed_marked g t k way w m a.ready a.params (slot_named w x) c0 v there (omega (arith, l, a.room)) kept Add s ns
       by Product pc st = let l = loaded _ (slot_named w x) w.line st.1.0 in
-          computed_marked g t k way w m a.ready a.params (slot_named w x) v there (omega (arith, l, a.room)) kept Multiply s ns
+          computed_marked g t k way w m a.ready a.params (slot_named w x) c0 v there (omega (arith, l, a.room)) kept Multiply s ns
       by Least pc st = let l = loaded _ (slot_named w x) w.line st.1.1.1.0 in
-          chosen_marked g t k way w m a.ready a.params (slot_named w x) v there (omega (arith, l, a.room)) kept
+          chosen_marked g t k way w m a.ready a.params (slot_named w x) c0 v there (omega (arith, l, a.room)) kept
           (stored g t k slots have forms way w m a _ (spare w 0) st.1.0) Less s ns
       by Greatest pc st = let l = loaded _ (slot_named w x) w.line st.1.1.1.0 in
-          chosen_marked g t k way w m a.ready a.params (slot_named w x) v there (omega (arith, l, a.room)) kept
+          chosen_marked g t k way w m a.ready a.params (slot_named w x) c0 v there (omega (arith, l, a.room)) kept
           (stored g t k slots have forms way w m a _ (spare w 0) st.1.0) Greater s ns

@@ -39,6 +39,10 @@ use Rattle.code_laws.proofs.Arguments.{handed_name}
 use Rattle.code_laws.proofs.Calling.{code_there}
 use Rattle.fit_rules.specs.Shapes.{ComesFrom, part, Among, Are, are_more, are_none, awaited, Each, Is, cut_from, is_cut, is_number, is_partition, is_region, IsRegion as IsRegionValue, Origin, partition, region, Shape, World, unknown, argument, own_as}
 use Rattle.fit_rules.specs.Marks.{around, Mark, stacked, Suits}
+use Rattle.sound_code.proofs.Placing.{named_as}
+use Rattle.sound_code.proofs.SlotShapes.{regions_plain}
+use Rattle.sound_code.proofs.SlotShapes.{partition_plain, pointer_plain, region_plain, slot_bare, slot_is, slot_numbered, slot_plain}
+use Rattle.sound_code.specs.Named.{name_shape, slot_shape}
 use Rattle.sound_code.specs.Named.{AreNamed}
 use Rattle.fit_rules.specs.Fits.{count_at, Declares, declares_it, made_it, Program}
 use Rattle.fit_rules.specs.Ends.{called, IsNeeded}
@@ -260,7 +264,7 @@ module _ (g : Program) (t : TaskCode) (k slots : ℕ) (forms : Forms) (way : Way
       (region_loaded g t k w.line w.params m way b.place b.static_type p us q.4
       (subst (λ l. slot_named w q.0 < l) (sym asked.ready.fixed)
       (slot_low w.params b.place (length w.scope.names) (named_low way w.params m.slots w.scope.names q.0 asked.ready.named q.2)))
-      (named_at way w.params m.slots w.scope.names q.0 asked.ready.named q.2)))
+      (named_as way w.params m.slots w.scope.names q.0 asked.ready.named q.2 (regions_plain way w.params _ p q.4))))
       (nothing_done g t k _))
 
   module _ (name : Name) (ts : List StaticType) (es : Expressions) (us : List Shape) (is : IsCallable forms w name es)

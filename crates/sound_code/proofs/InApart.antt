@@ -32,6 +32,9 @@ use Rattle.fit_laws.proofs.Held.{region_held}
 use Rattle.fit_laws.proofs.Lookup.{each_among, value_at}
 use Rattle.fit_rules.specs.Shapes.{argument, ComesFrom, Is, is_number, is_partition, is_region, KnowsRoots, partition, Shape, World}
 use Rattle.fit_rules.specs.Marks.{apart, around, Holds, in_slot, LiesIn, Mark, Suits}
+use Rattle.std.proofs.Common.{◌||◌, nat_lt}
+use Rattle.sound_code.proofs.SlotShapes.{partition_plain, pointer_plain, region_plain, slot_bare, slot_is, slot_numbered, slot_plain}
+use Rattle.sound_code.specs.Named.{name_shape, slot_shape}
 use Rattle.sound_code.specs.Named.{AreNamed, slot_at}
 use Rattle.sound_code.specs.Ways.{by_rules, opening_facts, origin_behind, origin_in, shape_in, Tops, Way}
 use Rattle.sound_code.proofs.Cuts.{AreCut}
@@ -47,9 +50,9 @@ use Rattle.sound_code.proofs.Under.{lies_through, LiesUnder, under_in}
 
 -- what has a name has its shape in its slot
 shape_has : (way : Way) (params : ℕ) (ss : List Shape) (bs : List Bound) (b : Bound) → AreNamed way params ss bs → Has bs b →
-    slice_get ss (slot_at params b.place) ≡ Some (shape_in way params b.static_type)
+    slice_get ss (slot_at params b.place) ≡ Some (name_shape way params b)
 shape_has way params ss [] b a h = absurd h
-shape_has way params ss (c ∷ bs) b a (inl e) = subst (λ (d : Bound). slice_get ss (slot_at params d.place) ≡ Some (shape_in way params d.static_type)) e a.1
+shape_has way params ss (c ∷ bs) b a (inl e) = subst (λ (d : Bound). slice_get ss (slot_at params d.place) ≡ Some (name_shape way params d)) e a.1
 shape_has way params ss (c ∷ bs) b a (inr h) = shape_has way params ss bs b a.2 h
 
 -- what lies within regions that share no point shares none
@@ -170,7 +173,8 @@ module _ (tops : Tops) (task : TaskTree) (t : TaskCode) (w : Where) (kept : Kept
       let found = partition_found names p ir.1.0 in
       let type : b.static_type ≡ partition_type true z p = (kept.head.parts (PartOf p z true) (Has-from_Contains known (PartOf p z true) h)).one b found.0 found.1 in
       let v = value_at base m.slots vs (slot_bound w p) (partition None true) suits.slots
-      (shape_has (by_rules tops task) w.params m.slots names b named found.0 ∙ ap (λ u. Some (shape_in (by_rules tops task) w.params u)) type) in
+      (shape_has (by_rules tops task) w.params m.slots names b named found.0 ∙ ap (λ u. Some (slot_shape (b.by_loop || nat_lt b.place w.params) (shape_in (by_rules tops task) w.params u))) type
+      ∙ ap (λ s. Some s) (slot_plain (b.by_loop || nat_lt b.place w.params) _ refl)) in
       let none = disjoint_children base v.value one.at.parts v.of (sym (ap partition_in v.at) ∙ one.at.there) in
       let parts = same_Some two.at.parts one.at.parts (sym two.at.there ∙ one.at.there) in
       inside_apart one.other two.other r q one.inside two.inside (λ root point d e.

@@ -33,6 +33,11 @@ use Rattle.fit_rules.specs.Fits.{Program}
 use Rattle.fit_rules.specs.Sound.{does_load, does_num}
 use Rattle.fit_laws.proofs.Keeping.{get_other, OfSlots, same_each}
 use Rattle.fit_laws.proofs.Numbers.{truth_is}
+use Rattle.fit_rules.specs.Marks.{ColoursStand}
+use Rattle.regent_tree.specs.declared.typing.StaticType.TheVariants.{Partition as partition_type, Region as region_type}
+use Rattle.sound_code.proofs.Expressions.{worth_loaded}
+use Rattle.sound_code.proofs.SlotShapes.{regions_plain, slot_plain}
+use Rattle.sound_code.specs.Named.{is_still, slot_shape}
 use Rattle.sound_code.specs.Named.{HasSlots, Ready, slot_at}
 use Rattle.sound_code.specs.Ways.{origin_in, shape_in, shape_of, Way}
 use Rattle.sound_code.proofs.Asked.{Asked}
@@ -68,7 +73,8 @@ module _ (g : Program) (t : TaskCode) (k slots : ℕ) (have : HasSlots t slots) 
     abbrev seen : List Bound
     seen = (with_name w.scope i t1 true).names
 
-    module _ (wanted : StaticType) (place : ℕ) (o : Mark) (knows : Knows way here top m o) (steady : KeepsFrom (kept here place) o) (room : kept here place < length o.slots) where
+    module _ (wanted : StaticType) (place : ℕ) (o : Mark) (knows : Knows way here top m o) (steady : KeepsFrom (kept here place) o)
+        (stand : (ss : List Shape) → Each (ColoursStand ss) o.facts) (room : kept here place < length o.slots) where
       -- where it waits
       abbrev s : ℕ
       s = kept here place
@@ -102,8 +108,8 @@ module _ (g : Program) (t : TaskCode) (k slots : ℕ) (have : HasSlots t slots) 
       value_code _ (launched_name n other plain) fixed fine whole =
           let is = read_worth forms.keeps _ fine.1 (whole (λ h. false≢true h)) in
           let at = knows.slots (slot_named here n) (low_outside w i kind line way m r n other fine.0) ∙ named_outside w i kind line way m r n other fine.0
-          ∙ ap Some (worth_named way w.params _ is) in
-          both g t k (does g t k (stacked o []) (instr.Load (slot_named here n)) here.line _ (does_load _ _ [] at (worth_settled _ is) (plain_shape _))) (nothing_done g t k _)
+          ∙ ap (λ s. Some (slot_shape (is_still w.params (bound here n)) s)) (worth_named way w.params _ is) in
+          both g t k (worth_loaded g t k here o (slot_named here n) (is_still w.params (bound here n)) (bound here n).static_type [] is (stand o.slots) at) (nothing_done g t k _)
       value_code _ (launched_variable n own) fixed fine whole = absurd (false≢true (sym (not-true (bytes_eq n i) fixed) ∙ own))
       value_code _ (launched_child q n part own) fixed fine whole = absurd (false≢true fixed)
       value_code _ (launched_none q e none) fixed fine whole = absurd (false≢true fixed)
@@ -142,7 +148,7 @@ module _ (g : Program) (t : TaskCode) (k slots : ℕ) (have : HasSlots t slots) 
           as_put _ v e _ _ (region_kept way here n _ v regions) (region_facts way here s n _ v regions)
           (region_code (converted_code here (typed here e) u) n (bound here n).static_type v
           (ap (converted_code here (typed here e)) same ∙ same_code here (typed here e) v regions) regions low
-          (knows.slots (slot_named here n) low ∙ named_outside w i kind line way m r n other there))
+          (knows.slots (slot_named here n) low ∙ named_outside w i kind line way m r n other there ∙ ap Some (slot_plain _ _ (regions_plain way w.params _ v regions))))
 
       cut_put : (u v : StaticType) (n : Name) → forms.keeps ≡ true → u ≡ v → IsCutName here n → IsPartition v →
           IsPut (fixed_code here place u (access_expr n no_step)) v (access_expr n no_step)
@@ -202,7 +208,14 @@ module _ (g : Program) (t : TaskCode) (k slots : ℕ) (have : HasSlots t slots) 
     pub record IsOpen (place : ℕ) (o : Mark) : Type 0 where
       pub knows : Knows way here top m o
       pub steady : KeepsFrom (kept here place) o
+      pub stand : (ss : List Shape) → Each (ColoursStand ss) o.facts
       pub long : length o.slots ≡ slots
+
+    -- no colour is named in what is known of such an argument
+    kept_stand : (s : ℕ) (p : StaticType) (e : Expression) (ss : List Shape) → Each (ColoursStand ss) (kept_facts way here s p e)
+    kept_stand s (region_type k sp args r) (access_expr n no_step) ss = (tt, (tt, tt))
+    kept_stand s (partition_type d r p) (access_expr n no_step) ss = (tt, tt)
+    kept_stand s _ _ ss = tt
 
     both_facts : (fs ks : List Fact) (P : Fact → Type 0) → Each P (fs ++ ks) → Each P fs × Each P ks
     both_facts [] ks P h = (tt, h)
@@ -246,18 +259,23 @@ module _ (g : Program) (t : TaskCode) (k slots : ℕ) (have : HasSlots t slots) 
           room fixed = subst (λ n. kept here place < n) (sym ready.long) ((have_room place (u ∷ ts) (v ∷ ps) (an_expr e es) passed pc st).0 fixed)
 
           step : (c : Bool) → is_fixed i e ≡ c → Marked g t k (stacked o []) (cond c (fixed_code here place u e) empty) (stacked (cond c (keeping way here (kept here place) v e o) o) [])
-          step true fixed = one_put (type_at wanted place) place o ready.knows ready.steady (room fixed) u v e form fixed passed.0 (asks_first _ _ _ whole)
+          step true fixed = one_put (type_at wanted place) place o ready.knows ready.steady ready.stand (room fixed) u v e form fixed passed.0 (asks_first _ _ _ whole)
           step false varies = nothing_done g t k _
 
           steady : (c : Bool) → is_fixed i e ≡ c → KeepsFrom (kept here (suc place)) (cond c (keeping way here (kept here place) v e o) o)
-          steady true fixed = kept_open place v e o ready (one_low (type_at wanted place) place o ready.knows ready.steady (room fixed) u v e fixed passed.0 (asks_first _ _ _ whole))
+          steady true fixed = kept_open place v e o ready (one_low (type_at wanted place) place o ready.knows ready.steady ready.stand (room fixed) u v e fixed passed.0 (asks_first _ _ _ whole))
           steady false varies = λ s l. ready.steady s (omega (arith, l))
+
+          stands : (c : Bool) (ss : List Shape) → Each (ColoursStand ss) (cond c (keeping way here (kept here place) v e o) o).facts
+          stands true ss = each_onto (ColoursStand ss) (kept_facts way here (kept here place) v e) o.facts (kept_stand (kept here place) v e ss) (ready.stand ss)
+          stands false ss = ready.stand ss
 
           next : IsOpen (suc place) (kept_one way here i place v e o)
           next =
               let one = one_knows way here i place v e o in record {
                 knows = knows_then way here top (kept here place) m o (kept_one way here i place v e o) (omega arith) ready.knows one;
                 steady = steady (is_fixed i e) refl;
+                stand = λ ss. stands (is_fixed i e) ss;
                 long = one.long ∙ ready.long;
               }
       all_put place [] [] (an_expr e es) o looks passed whole ready pc st = absurd passed

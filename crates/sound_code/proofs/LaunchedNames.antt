@@ -25,6 +25,8 @@ use Rattle.fit_rules.specs.Shapes.{Among, index, space}
 use Rattle.fit_rules.specs.Marks.{Mark, parted}
 use Rattle.fit_rules.specs.Fits.{Program}
 use Rattle.fit_laws.proofs.Keeping.{get_other}
+use Rattle.sound_code.proofs.SlotShapes.{partition_plain, pointer_plain, region_plain, slot_bare, slot_is, slot_numbered, slot_plain}
+use Rattle.sound_code.specs.Named.{name_shape, slot_shape}
 use Rattle.sound_code.specs.Named.{Ready, slot_at}
 use Rattle.sound_code.specs.Ways.{shape_in, Way}
 use Rattle.sound_code.proofs.Colours.{named_low, slot_low}
@@ -89,8 +91,8 @@ module _ (w : Where) (i : Name) (kind : Kind) (line : ℕ) where
 
   module _ (way : Way) (m : Mark) (r : Ready way w.params w.scope.names m) where
     pub named_outside : (n : Name) → bytes_eq n i ≡ false → is_bound here.scope.names n ≡ true →
-        slice_get m.slots (slot_named here n) ≡ Some (shape_in way w.params (bound here n).static_type)
-    named_outside n other there = subst (λ (b : Bound). slice_get m.slots (slot_at w.params b.place) ≡ Some (shape_in way w.params b.static_type))
+        slice_get m.slots (slot_named here n) ≡ Some (name_shape way w.params (bound here n))
+    named_outside n other there = subst (λ (b : Bound). slice_get m.slots (slot_at w.params b.place) ≡ Some (name_shape way w.params b))
         (sym (bound_other w.scope i (index_type kind) n other))
         (named_at way w.params m.slots w.scope.names n r.named (there_other w.scope i (index_type kind) n other there))
 

@@ -37,6 +37,8 @@ use Rattle.fit_rules.specs.Fits.{Program}
 use Rattle.fit_rules.specs.Sound.{HasArgument, OpensEach, OpensWith, Settled, settled_partition, settled_region}
 use Rattle.fit_laws.proofs.Keeping.{get_other, get_set, set_mark}
 use Rattle.marked_code.specs.Marked.{leads_launching, typed_op}
+use Rattle.sound_code.specs.Named.{loops_in}
+use Rattle.sound_code.proofs.Steady.{steady_stand}
 use Rattle.sound_code.specs.Named.{HasSlots, Narrower, Ready, slot_at}
 use Rattle.sound_code.specs.Ways.{shape_in, shape_of, Way}
 use Rattle.sound_code.proofs.Alike.{Alike, alike_regions, alike_same, AllAlike, more_alike, none_alike}
@@ -241,6 +243,7 @@ module _ (g : Program) (t : TaskCode) (k slots : ℕ) (have : HasSlots t slots) 
           both g t k (all_put g t k slots have forms way w i kind line m r ep hi asked t1 (params_of here.tree task) 0 given types es over looks passed whole (record {
             knows = over_knows;
             steady = λ s l. behind_kept way w.params w.scope.names m s r (omega (arith, l));
+            stand = λ ss. steady_stand w.params (length w.scope.names) (loops_in way w.scope.names) ss m.facts r.facts;
             long = over_knows.long ∙ room;
           }) pc st.0)
           (into g t k (record {

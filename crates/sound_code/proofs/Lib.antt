@@ -105,3 +105,4 @@ pub mod LaunchedExample
 pub mod LeftWith
 pub mod MiddleParts
 pub mod MiddleExample
+pub mod SlotShapes

@@ -31,7 +31,7 @@ use Rattle.check_rules.proofs.Untold.{rule_none}
 use Rattle.code_rules.specs.Expressions.{expr_code, steps_code}
 use Rattle.code_rules.specs.Instructions.{load_code}
 use Rattle.code_rules.specs.Pieces.{◌⨟◌, Piece}
-use Rattle.code_rules.specs.Slots.{bound, own_slot, slot_bound, slot_named, slots_of, spare, typed, Where}
+use Rattle.code_rules.specs.Slots.{bound, own_slot, slot_bound, slot_named, slots_of, result, spare, typed, Where}
 use Rattle.code_laws.specs.Arguments.{IsCutName}
 use Rattle.code_laws.specs.Pointers.{IsCounting}
 use Rattle.code_laws.specs.Simple.{a_partition_type, a_region_type, IsPartition, IsRegion}
@@ -107,13 +107,17 @@ module _ (tree : Tree) (task : TaskTree) (s : Scope) (sound : IsSound tree) wher
 -- ---- slots
 
 -- a spare slot behind those in use is free
-pub spare_free : (deep d n : ℕ) → deep ≤ d → IsFreeFrom deep n (n + 2 + d)
-spare_free zero d n l = omega arith
-spare_free (suc e) d n l = omega (arith, l)
+pub spare_free : (w : Where) (deep d : ℕ) → deep ≤ d → w.params ≤ length w.scope.names →
+    IsFreeFrom deep (slot_at w.params (length w.scope.names)) (spare w d)
+spare_free w deep d l low = omega (arith, l, low)
+
+-- and so is one for a result
+pub result_free : (w : Where) (deep d : ℕ) → deep ≤ d → w.params ≤ length w.scope.names →
+    IsFreeFrom deep (slot_at w.params (length w.scope.names)) (result w d)
+result_free w deep d l low = omega (arith, l, low)
 
 free_below : (deep d n s : ℕ) → deep ≤ d → IsFreeFrom (suc d) n s → IsFreeFrom deep n s
-free_below zero d n s l h = omega (arith, h)
-free_below (suc e) d n s l h = omega (arith, l, h)
+free_below deep d n s l h = omega (arith, l, h)
 
 -- the field space of a part
 pub part_space : (w : Where) (n : Name) (e : Expression) → IsPiece w n e →
@@ -157,7 +161,7 @@ module _ (g : Program) (t : TaskCode) (k slots : ℕ) (have : HasSlots t slots) 
         named = named_behind way w.params m.slots names s _ r.named (omega arith);
         beside = parts_behind way w.params m.slots names s _ r.named r.beside (omega arith);
         free = λ j l h.
-            get_other m.slots s j _ (λ q. omega (arith, q, l))
+            get_other m.slots s j _ (λ q. omega (arith, q, l, r.low))
             ∙ r.free j (free_below deep d (slot_at w.params (length names)) j low l) (omega (arith, h, length-set m.slots s (region (Some space) origin)));
         numbered = numbered_set names m.slots s _ r.numbered
             (numbered_at names m.slots _ _ r.numbered (parent_there g t k slots forms way w m asked n keeps cut));
@@ -236,7 +240,7 @@ module _ (g : Program) (t : TaskCode) (k slots : ℕ) (have : HasSlots t slots) 
   put_away us vs p hi f = into g t k f
       (narrow_over t.params put_mark m vs refl
       (narrow_set m.slots m.slots (spare w d) _ (narrow_itself m.slots)
-      (inl (asked.ready.free (spare w d) (spare_free deep d (slot_at w.params (length w.scope.names)) low) hi))) (same_facts _ _ refl))
+      (inl (asked.ready.free (spare w d) (spare_free w deep d low asked.ready.low) hi))) (same_facts _ _ refl))
       (sym (length-set m.slots (spare w d) _))
 
   -- ---- fields

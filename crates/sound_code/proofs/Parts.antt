@@ -30,6 +30,10 @@ use Rattle.fit_rules.specs.Shapes.{Among, any_colour, child_at, Colour, colour_i
 use Rattle.fit_rules.specs.Marks.{any_colour, child_in, Mark, parted, stacked, top_at, top_colour, topped}
 use Rattle.marked_code.specs.Marked.{leads_coloured, leads_loaded, leads_pointed, typed_op}
 use Rattle.fit_rules.specs.Fits.{Program}
+use Rattle.std.proofs.Common.{◌||◌, nat_lt}
+use Rattle.sound_code.proofs.Placing.{named_as}
+use Rattle.sound_code.proofs.SlotShapes.{partition_plain, pointer_plain, region_plain, slot_bare, slot_is, slot_numbered, slot_plain}
+use Rattle.sound_code.specs.Named.{name_shape, slot_shape}
 use Rattle.sound_code.specs.Ways.{by_rules, origin_in, shape_in, shape_of, Way}
 use Rattle.sound_code.proofs.Asked.{AskedAt, ruled}
 use Rattle.sound_code.proofs.Colours.{colour_at, held_colour, IsUnder, named_low, slot_low}
@@ -89,7 +93,7 @@ module _ (g : Program) (t : TaskCode) (k slots : ℕ) (forms : Forms) (way : Way
   pub cut_of : (n : Name) → forms.keeps ≡ true → IsCutName w n → IsCutOf w m n (parent_of (bound w n).static_type)
   cut_of n q c =
       let r = ruled g t k slots forms way w m asked q in
-      of_type (r.tops r.task) (told_in w.tree r.task) n (bound w n).static_type refl c.partition (named_at way w.params m.slots w.scope.names n asked.ready.named c.named)
+      of_type (r.tops r.task) (told_in w.tree r.task) n (bound w n).static_type refl c.partition (named_as way w.params m.slots w.scope.names n asked.ready.named c.named (partition_plain way w.params _ c.partition))
       (cut_named w.params (r.tops r.task) (told_in w.tree r.task) m.facts w.scope.names w.scope.names n (cuts q) c.named)
 
   -- the number of the region of which a name's partition is, and where a part comes from
@@ -155,13 +159,14 @@ module _ (g : Program) (t : TaskCode) (k slots : ℕ) (forms : Forms) (way : Way
   pub coloured : (d : ℕ) (us : List Shape) (e : Expression) → IsTyped forms w e → IsCounting (typed w e) →
       Goes us (expr_code w d e) (shape_of (typed w e) ∷ us) → Coloured us (expr_code w d e) (typed w e) (colour_at w e)
   coloured d us (number_expr z v) fine h f = coloured_number us z v fine
-  coloured d us (access_expr n no_step) fine h f = of (bound w n).by_loop
+  coloured d us (access_expr n no_step) fine h f = of (bound w n).by_loop refl
     where
-      of : (b : Bool) → Coloured us (expr_code w d (access_expr n no_step)) (bound w n).static_type (cond b (held_colour (bound w n).static_type (slot_named w n)) any_colour)
-      of true = coloured_loop us (slot_named w n) (bound w n).static_type (subst (λ l. slot_named w n < l) (sym asked.ready.fixed)
+      of : (b : Bool) → (bound w n).by_loop ≡ b → Coloured us (expr_code w d (access_expr n no_step)) (bound w n).static_type (cond b (held_colour (bound w n).static_type (slot_named w n)) any_colour)
+      of true loop = coloured_loop us (slot_named w n) (bound w n).static_type (subst (λ l. slot_named w n < l) (sym asked.ready.fixed)
           (slot_low w.params (bound w n).place (length w.scope.names) (named_low way w.params m.slots w.scope.names n asked.ready.named fine.0)))
-          (named_at way w.params m.slots w.scope.names n asked.ready.named fine.0) h
-      of false = coloured_any us _ (bound w n).static_type h f
+          (named_at way w.params m.slots w.scope.names n asked.ready.named fine.0
+          ∙ ap (λ c. Some (slot_shape (c || nat_lt (bound w n).place w.params) (shape_in way w.params (bound w n).static_type))) loop) h
+      of false loop = coloured_any us _ (bound w n).static_type h f
   coloured d us (access_expr n (field_step a rest)) fine h f = coloured_any us _ _ h f
   coloured d us (access_expr n (at_step a rest)) fine h f = coloured_any us _ _ h f
   coloured d us (truth_expr b) fine h f = coloured_any us _ _ h f

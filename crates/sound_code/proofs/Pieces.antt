@@ -29,7 +29,7 @@ use Rattle.code_rules.specs.Expressions.{expr_code}
 use Rattle.code_rules.specs.Initializers.{initializer_code, plain_code, written_code}
 use Rattle.code_rules.specs.Pieces.{empty, op, Piece, ◌⨟◌}
 use Rattle.code_rules.specs.Slots.{bound, slot_bound, slot_named, typed, Where}
-use Rattle.code_rules.specs.Statements.{after_form, form_code}
+use Rattle.code_rules.specs.Statements.{begun_form, after_form, form_code}
 use Rattle.check_laws.proofs.Scopes.{found_by_number}
 use Rattle.code_laws.specs.Arguments.{IsCutName}
 use Rattle.code_laws.specs.Handing.{told_in}
@@ -44,6 +44,10 @@ use Rattle.fit_laws.proofs.Keeping.{set_mark}
 use Rattle.fit_rules.specs.Shapes.{Among, argument, Is, is_number, is_region, own_as, part, region, World}
 use Rattle.fit_rules.specs.Marks.{child_in, Colour, in_slot, lies, Mark, parted, stacked, top_at, topped}
 use Rattle.fit_rules.specs.Fits.{Program}
+use Rattle.std.proofs.Common.{nat_lt, suc}
+use Rattle.sound_code.specs.Named.{Ready}
+use Rattle.sound_code.proofs.Combining.{fixed_to}
+use Rattle.sound_code.proofs.SlotShapes.{slot_numbered, slot_plain}
 use Rattle.sound_code.specs.Places.{IsBehind}
 use Rattle.sound_code.specs.Named.{HasSlots, is_begun, IsOfNumber, is_piece, IsSteadyColour, slot_at, loops_in}
 use Rattle.sound_code.specs.Ways.{by_rules, origin_behind, origin_in, shape_in, Tops, Way, whole_origin}
@@ -156,9 +160,11 @@ module _ (g : Program) (t : TaskCode) (k slots : ℕ) (have : HasSlots t slots) 
       let low_q = named_low way w.params m.slots names q ready.named bound_q in
       let lower_q : slot_named w q < slot = omega (arith, low_q) in
       let fs = lies (in_slot slot) (child_in (slot_named w q) c) ∷ lies (in_slot slot) (in_slot (slot_bound w r)) ∷ m.facts in
-      let plain = named_more way w.params names m b ready hi refl
+      let c1 = nat_lt (length names) w.params in
+      let plain = subst (λ y. Ready way w.params (b ∷ names) (fixed_to (slot_at w.params (suc (length names))) (set_mark m slot y []))) (slot_plain c1 (shape_in way w.params u) refl)
+      (named_more way w.params names m b ready hi refl (slot_numbered (b ∷ names) c1 (shape_in way w.params u)
       (numbered_more names b (shape_in way w.params u) (subst (λ v. IsOfNumber names (origin_in v w.params (term.Name w.scope.next))) (sym by.by)
-      (part_numbered by.tops by.task w.params w.scope.next r names high begins (subst (λ v. IsOfNumber names (origin_in v w.params (term.Name r))) by.by number)))) refl in
+      (part_numbered by.tops by.task w.params w.scope.next r names high begins (subst (λ v. IsOfNumber names (origin_in v w.params (term.Name r))) by.by number))))) refl) in
       record {
         next = fixed_to (slot_at w.params (suc (length names))) (knowing (lies (in_slot slot) (child_in (slot_named w q) c)) (knowing (lies (in_slot slot) (in_slot (slot_bound w r))) (set_mark m slot (shape_in way w.params u) [])));
         is = fixing g t k _ (knowing (lies (in_slot slot) (child_in (slot_named w q) c)) (knowing (lies (in_slot slot) (in_slot (slot_bound w r))) (set_mark m slot (shape_in way w.params u) []))) _ _
@@ -278,9 +284,9 @@ module _ (g : Program) (t : TaskCode) (k slots : ℕ) (have : HasSlots t slots) 
   pub piece_marked : (x : Name) (e : Expression) → ToldForm way w.tree w.scope (var_form x None (Some (plain_initializer e))) →
       UpTo way w.tree (scope_after w.tree w.scope (var_form x None (Some (plain_initializer e)))) → forms.keeps ≡ true →
       BeginsAsPart forms.takes w e (IsIndexed forms w e) → takes_part true w e ≡ true → (pc : ℕ) →
-      Stands t.body pc (form_code w (var_form x None (Some (plain_initializer e)))) → slot_at w.params (length w.scope.names) < length m.slots →
+      Stands t.body pc (begun_form w None (Some (plain_initializer e))) → slot_at w.params (length w.scope.names) < length m.slots →
       Followed g t k forms.keeps way w.tree w.params (after_form w (var_form x None (Some (plain_initializer e)))).scope.names m
-      (form_code w (var_form x None (Some (plain_initializer e))))
+      (begun_form w None (Some (plain_initializer e)))
   piece_marked x (access_expr q (at_step i no_step)) told up keeps b whole pc st hi =
       let kind = part_is w q i b.0.1 b.0.2 in
       part_kept x q i None told up keeps b whole kind.kind kind.args (ap (owned w.scope.next) kind.is)
@@ -292,9 +298,9 @@ module _ (g : Program) (t : TaskCode) (k slots : ℕ) (have : HasSlots t slots) 
       UpTo way w.tree (scope_after w.tree w.scope (var_form x (Some said) (Some (plain_initializer e)))) → forms.keeps ≡ true →
       BeginsAsPart forms.takes w e (IsIndexed forms w e) → takes_part true w e ≡ true →
       IsLike (var_type w.tree w.scope (Some said) (Some (plain_initializer e))) (owned w.scope.next (typed w e)) → (pc : ℕ) →
-      Stands t.body pc (form_code w (var_form x (Some said) (Some (plain_initializer e)))) → slot_at w.params (length w.scope.names) < length m.slots →
+      Stands t.body pc (begun_form w (Some said) (Some (plain_initializer e))) → slot_at w.params (length w.scope.names) < length m.slots →
       Followed g t k forms.keeps way w.tree w.params (after_form w (var_form x (Some said) (Some (plain_initializer e)))).scope.names m
-      (form_code w (var_form x (Some said) (Some (plain_initializer e))))
+      (begun_form w (Some said) (Some (plain_initializer e)))
   piece_said x said (access_expr q (at_step i no_step)) told up keeps b whole like pc st hi =
       let kind = part_is w q i b.0.1 b.0.2 in
       let u = var_type w.tree w.scope (Some said) (Some (plain_initializer (access_expr q (at_step i no_step)))) in

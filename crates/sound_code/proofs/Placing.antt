@@ -13,23 +13,31 @@ use Rattle.code_laws.specs.Simple.{IsRegion, a_region_type, IsSimple, simple_ind
 use Rattle.fit_rules.specs.Shapes.{Each, Shape}
 use Rattle.fit_rules.specs.Marks.{Mark}
 use Rattle.fit_rules.specs.Sound.{HasRegion}
-use Rattle.sound_code.specs.Named.{slot_at, AreNamed}
+use Rattle.std.proofs.Common.{◌∙◌, ap, Some}
+use Rattle.sound_code.specs.Named.{slot_at, AreNamed, name_shape, pended}
+use Rattle.sound_code.proofs.SlotShapes.{slot_plain}
 use Rattle.sound_code.specs.Ways.{Way, all_made, by_rules, origin_in, shape_in, shape_of}
 use Rattle.sound_code.proofs.Granting.{InPlace}
 use Rattle.sound_code.proofs.Grounds.{Ground, IsPlaced, OfType}
 
 -- a name in scope has its shape in its slot
 pub named_at : (way : Way) (params : ℕ) (ss : List Shape) (bs : List Bound) (n : Name) → AreNamed way params ss bs → is_bound bs n ≡ true →
-    slice_get ss (slot_at params (bound_to bs n).place) ≡ Some (shape_in way params (bound_to bs n).static_type)
+    slice_get ss (slot_at params (bound_to bs n).place) ≡ Some (name_shape way params (bound_to bs n))
 named_at way params ss [] n a h = absurd (false≢true h)
 named_at way params ss (b ∷ bs) n a h = chosen (bytes_eq b.name n) (named_at way params ss bs n a.2) h
   where
     chosen : (c : Bool) →
-        (is_bound bs n ≡ true → slice_get ss (slot_at params (bound_to bs n).place) ≡ Some (shape_in way params (bound_to bs n).static_type)) →
+        (is_bound bs n ≡ true → slice_get ss (slot_at params (bound_to bs n).place) ≡ Some (name_shape way params (bound_to bs n))) →
         (c || is_bound bs n) ≡ true →
-        slice_get ss (slot_at params (cond c b (bound_to bs n)).place) ≡ Some (shape_in way params (cond c b (bound_to bs n)).static_type)
+        slice_get ss (slot_at params (cond c b (bound_to bs n)).place) ≡ Some (name_shape way params (cond c b (bound_to bs n)))
     chosen true more e = a.1
     chosen false more e = more e
+
+-- so what is no number, as it is
+pub named_as : (way : Way) (params : ℕ) (ss : List Shape) (bs : List Bound) (n : Name) → AreNamed way params ss bs → is_bound bs n ≡ true →
+    pended (shape_in way params (bound_to bs n).static_type) ≡ shape_in way params (bound_to bs n).static_type →
+    slice_get ss (slot_at params (bound_to bs n).place) ≡ Some (shape_in way params (bound_to bs n).static_type)
+named_as way params ss bs n a h plain = named_at way params ss bs n a h ∙ ap (λ s. Some s) (slot_plain _ _ plain)
 
 -- a simple type's shape is the same of a name
 pub simple_named : (way : Way) (params : ℕ) (u : StaticType) → IsSimple u → shape_in way params u ≡ shape_of u

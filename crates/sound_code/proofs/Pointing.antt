@@ -30,6 +30,9 @@ use Rattle.fit_rules.specs.Shapes.{Each, index, integer, numeric_index, numeric_
 use Rattle.fit_rules.specs.Marks.{Mark, stacked}
 use Rattle.fit_rules.specs.Fits.{Program}
 use Rattle.fit_rules.specs.Sound.{does_cast, does_cast_pointer, does_element, does_is_null, does_load, does_num, HasRegion, settled_number}
+use Rattle.sound_code.proofs.Placing.{named_as}
+use Rattle.sound_code.proofs.SlotShapes.{partition_plain, pointer_plain, region_plain, slot_bare, slot_is, slot_numbered, slot_plain}
+use Rattle.sound_code.specs.Named.{name_shape, slot_shape}
 use Rattle.sound_code.specs.Ways.{by_rules, shape_of, Way}
 use Rattle.sound_code.proofs.Asked.{AskedAt, ruled}
 use Rattle.sound_code.proofs.Combining.{both, does, Marked, nothing_done}
@@ -123,7 +126,7 @@ module _ (g : Program) (t : TaskCode) (k slots : ℕ) (forms : Forms) (way : Way
       let may = may_read_through w r.task x f h.pointer h.certain h.field (subst (λ v. Told v w.tree w.scope (access_expr x (field_step f no_step))) r.by told).1 in
       reads_through g t k r.tops r.task w m r.known f (field_behind w x f) u (bound w x).place (own_slot w u (bound w x).place) rest
       (steps_code w d (field_behind w x f) 0 rest) us vs h.pointer
-      (named_at (by_rules r.tops r.task) w.params m.slots w.scope.names x r.named h.named ∙ ap Some (pointer_named (by_rules r.tops r.task) w.params u h.pointer)) h.keeps
+      (named_as (by_rules r.tops r.task) w.params m.slots w.scope.names x r.named h.named (pointer_plain (by_rules r.tops r.task) w.params _ h.pointer) ∙ ap Some (pointer_named (by_rules r.tops r.task) w.params u h.pointer)) h.keeps
       (λ vs. allowed_through w r.task r.tops g t m asked.params r.known r.kept r.facts r.named r.scoped u
       (field_place w.tree (space_in u) f) (bound w x).place Read vs h.pointer there part h.certain may h.field) more
 
@@ -138,7 +141,7 @@ module _ (g : Program) (t : TaskCode) (k slots : ℕ) (forms : Forms) (way : Way
       let there = pointer_aims w.scope.names (bound w x).number u h.pointer (scoped_named w.scope.names w.scope.names x r.scoped h.named) in
       let part = part_named (by_rules r.tops r.task) w.params m.slots w.scope.next w.scope.names x h.numbers r.beside h.named in
       let may = may_write_through w r.task x f y h.pointer h.certain h.field told_here.1.form in
-      let named = named_at (by_rules r.tops r.task) w.params m.slots w.scope.names x r.named h.named ∙ ap Some (pointer_named (by_rules r.tops r.task) w.params u h.pointer) in
+      let named = named_as (by_rules r.tops r.task) w.params m.slots w.scope.names x r.named h.named (pointer_plain (by_rules r.tops r.task) w.params _ h.pointer) ∙ ap Some (pointer_named (by_rules r.tops r.task) w.params u h.pointer) in
       both g t k (both g t k (pointer_loaded u (bound w x).place (shape_of (field_behind w x f) ∷ []) h.pointer named) (nothing_done g t k _))
       (writes_through g t k r.tops r.task w m r.known f (field_behind w x f) u (own_slot w u (bound w x).place) [] h.pointer h.keeps
       (λ vs. allowed_through w r.task r.tops g t m asked.params r.known r.kept r.facts r.named r.scoped u
@@ -154,7 +157,7 @@ module _ (g : Program) (t : TaskCode) (k slots : ℕ) (forms : Forms) (way : Way
       let there = pointer_aims w.scope.names (bound w x).number u h.pointer (scoped_named w.scope.names w.scope.names x r.scoped h.named) in
       let part = part_named (by_rules r.tops r.task) w.params m.slots w.scope.next w.scope.names x h.numbers r.beside h.named in
       let may = may_reduce_through w r.task x f o y h.pointer h.certain h.field told_here.1.form in
-      let named = named_at (by_rules r.tops r.task) w.params m.slots w.scope.names x r.named h.named ∙ ap Some (pointer_named (by_rules r.tops r.task) w.params u h.pointer) in
+      let named = named_as (by_rules r.tops r.task) w.params m.slots w.scope.names x r.named h.named (pointer_plain (by_rules r.tops r.task) w.params _ h.pointer) ∙ ap Some (pointer_named (by_rules r.tops r.task) w.params u h.pointer) in
       both g t k (both g t k (pointer_loaded u (bound w x).place (a ∷ []) h.pointer named) (nothing_done g t k _))
       (reduces_through g t k r.tops r.task w m r.known f (field_behind w x f) u (own_slot w u (bound w x).place) o a [] h.pointer io na h.keeps
       (λ vs. allowed_through w r.task r.tops g t m asked.params r.known r.kept r.facts r.named r.scoped u

@@ -48,6 +48,7 @@ use Rattle.fit_laws.proofs.Held.{region_held}
 use Rattle.fit_laws.proofs.Keeping.{same_holds}
 use Rattle.fit_laws.proofs.Launches.{both_there, handed_child}
 use Rattle.fit_laws.proofs.Lookup.{as_long, each_among, value_at}
+use Rattle.sound_code.proofs.SlotShapes.{regions_plain, slot_plain}
 use Rattle.sound_code.specs.Named.{Ready, slot_at}
 use Rattle.sound_code.specs.Ways.{origin_in, shape_in, shape_of, Way}
 use Rattle.sound_code.proofs.Alike.{Alike, alike_regions, alike_same, AllAlike, more_alike, none_alike}
@@ -172,7 +173,7 @@ module _ (g : Program) (t : TaskCode) (k slots : ℕ) (forms : Forms) (way : Way
         let e = access_expr n no_step in
         let low = low_outside w i kind line way m r n other there in
         let facts = region_facts way here (kept here place) n (bound here n).static_type p regions in
-        let same = twin (bound here n).static_type p (slot_named here n) (kept here place) z regions low (named_outside w i kind line way m r n other there)
+        let same = twin (bound here n).static_type p (slot_named here n) (kept here place) z regions low (named_outside w i kind line way m r n other there ∙ ap (λ s. Some s) (slot_plain _ _ (regions_plain way w.params _ p regions)))
         (kept_holds place p e waits z at _ _ facts (inl refl)) (kept_holds place p e waits z at _ _ facts (inr (inl refl))) at
         (subst (λ a. Is x a z) (region_kept way here n (bound here n).static_type p regions) (kept_is place p e waits z at)) in
         record { it = same.it; of = subst (λ a. Is y a same.it) (sym (region_handed way here n (bound here n).static_type p regions)) same.of; like = same.like }

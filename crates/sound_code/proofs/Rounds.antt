@@ -7,6 +7,8 @@ use Rattle.regent_tree.specs.declared.typing.Bound.{Bound}
 use Rattle.fit_rules.specs.Shapes.{Each, Shape}
 use Rattle.fit_rules.specs.Marks.{Fact, Mark}
 use Rattle.fit_laws.proofs.Keeping.{get_other, get_set}
+use Rattle.sound_code.proofs.SlotShapes.{partition_plain, pointer_plain, region_plain, slot_bare, slot_is, slot_numbered, slot_plain}
+use Rattle.sound_code.specs.Named.{name_shape, slot_shape}
 use Rattle.sound_code.specs.Ways.{Way, shape_in}
 use Rattle.sound_code.specs.Named.{HasPartBeside, IsNumbered, IsSteady, slot_at, Ready, Narrower, loops_in}
 use Rattle.sound_code.proofs.Besides.{parts_behind}
@@ -63,7 +65,7 @@ module _ (way : Way) (params : ℕ) (bs : List Bound) (m : Mark) (r : Ready way 
     domain_there = get_other (slice_set head_mark.slots va V) co be C (λ e. omega (arith, e))
         ∙ get_other head_mark.slots va be V (λ e. omega (arith, e)) ∙ limit_there
 
-    pub round_ready : (b : Bound) → b.place ≡ length bs → shape_in way params b.static_type ≡ V →
+    pub round_ready : (b : Bound) → b.place ≡ length bs → name_shape way params b ≡ V →
         IsNumbered (b ∷ bs) B → IsNumbered (b ∷ bs) C → IsNumbered (b ∷ bs) V → Each (IsSteady params (suc (length bs)) (loops_in way bs)) fs →
         HasPartBeside way params round_mark.slots bs b.place b.static_type → Ready way params (b ∷ bs) round_mark
     round_ready b eb es nb nc nv counts beside = record {

@@ -18,6 +18,8 @@ use Rattle.check_laws.specs.SoundScopes.{Falls}
 use Rattle.code_laws.specs.Pointers.{a_pointer_type, AreThere, IsPointer}
 use Rattle.code_laws.specs.Simple.{a_region_type, IsPartition, IsRegion}
 use Rattle.fit_rules.specs.Shapes.{Each, region, Shape}
+use Rattle.sound_code.proofs.SlotShapes.{partition_plain, pointer_plain, region_plain, slot_bare, slot_is, slot_numbered, slot_plain}
+use Rattle.sound_code.specs.Named.{name_shape, slot_shape}
 use Rattle.sound_code.specs.Named.{AreNamed, slot_at}
 use Rattle.sound_code.specs.Ways.{Tops, all_made, by_rules, origin_in, shape_in, shape_of, Way}
 use Rattle.sound_code.proofs.Grounds.{IsPlaced, OfType}
@@ -103,7 +105,7 @@ region_as way params ss (b ∷ bs) i a r = chosen (b.number == i) (region_as way
         (IsRegion (bound_as bs i).static_type → slice_get ss (slot_at params (bound_as bs i).place) ≡ Some (shape_in way params (bound_as bs i).static_type)) →
         IsRegion (cond c b (bound_as bs i)).static_type →
         slice_get ss (slot_at params (cond c b (bound_as bs i)).place) ≡ Some (shape_in way params (cond c b (bound_as bs i)).static_type)
-    chosen true more r = a.1
+    chosen true more r = a.1 ∙ ap (λ s. Some s) (slot_plain _ _ (region_plain way params b.static_type r))
     chosen false more r = more r
 
 pub placed_as : (params : ℕ) (bs : List Bound) (i : ℕ) → Each (IsPlaced params) bs → IsRegion (bound_as bs i).static_type →

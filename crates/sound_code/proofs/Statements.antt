@@ -36,6 +36,16 @@ use Rattle.fit_rules.specs.Fits.{Program}
 use Rattle.fit_rules.specs.Sound.{IsOther, does_num, does_assert, does_drop}
 use Rattle.marked_code.specs.Marked.{leads_back, leads_making, typed_op, typed_branch, typed_loop}
 use Rattle.fit_laws.proofs.Keeping.{get_other, get_set, set_mark}
+use Rattle.std.proofs.Common.{nat_lt, Bool, true, false}
+use Rattle.code_rules.proofs.KeptCalls.{assigned_either}
+use Rattle.code_rules.specs.Assignments.{right_code, target_code}
+use Rattle.code_rules.specs.Statements.{put_call}
+use Rattle.sound_code.proofs.Expressions.{stored}
+use Rattle.sound_code.proofs.Expressions.{call_left}
+use Rattle.sound_code.specs.Named.{is_still}
+use Rattle.regent_tree.specs.Syntax.{call_expr}
+use Rattle.sound_code.proofs.SlotShapes.{partition_plain, pointer_plain, region_plain, slot_bare, slot_is, slot_numbered, slot_plain}
+use Rattle.sound_code.specs.Named.{name_shape, slot_shape}
 use Rattle.sound_code.proofs.Plain.{plain_in}
 use Rattle.sound_code.proofs.Counting.{null_fits}
 use Rattle.sound_code.specs.Places.{AreMore}
@@ -53,7 +63,7 @@ use Rattle.machine_terms.specs.declared.value.Value.{Value}
 use Rattle.sound_code.proofs.Calling.{zero_numeric}
 use Rattle.code_laws.proofs.Wider.{zero_simple}
 use Rattle.sound_code.proofs.Handing.{calls}
-use Rattle.sound_code.proofs.Combining.{bare_number, bare_space, IsBare, Marked, nothing_done, both, does, into, behind_kept, fixed_to, fixing, named_kept, keeping, slot_high, slot_next, storing}
+use Rattle.sound_code.proofs.Combining.{bare_number, bare_space, IsBare, Marked, nothing_done, both, does, into, behind_kept, fixed_to, fixing, named_kept, bare_awaited, keeping_call, keeping_slot, slot_high, slot_next, storing}
 use Rattle.sound_code.proofs.Expressions.{args_marked, converted_marked, expr_marked, named_at, truth_shape}
 use Rattle.sound_code.proofs.Besides.{NamesNoChild, none_beside, parts_behind}
 use Rattle.sound_code.proofs.Narrowing.{AtLeast, fewer_facts, narrow_long, narrow_itself, narrow_set, narrow_into, named_behind}
@@ -66,17 +76,25 @@ kept_bare _ (worth_simple _ (simple_space c)) = bare_space
 kept_bare _ (worth_simple _ (simple_index c)) = bare_number _ numeric_index
 kept_bare _ (worth_pointer k sp args rs few) = bare_number _ (numeric_pointer _)
 
+slot_kept : (c : Bool) (u : StaticType) → IsWorth u → IsBare (slot_shape c (shape_of u))
+slot_kept true u is = kept_bare u is
+slot_kept false _ (worth_simple _ (simple_integer v)) = bare_awaited _ (numeric_integer v)
+slot_kept false _ (worth_simple _ simple_truth) = bare_awaited _ numeric_truth
+slot_kept false _ (worth_simple _ (simple_space c)) = bare_space
+slot_kept false _ (worth_simple _ (simple_index c)) = bare_awaited _ numeric_index
+slot_kept false _ (worth_pointer k sp args rs few) = bare_number _ (numeric_pointer _)
+
 -- ---- marks between statements
 
 -- one more name
 pub named_more : (way : Way) (params : ℕ) (bs : List Bound) (m : Mark) (b : Bound) → Ready way params bs m →
-    slot_at params (length bs) < length m.slots → b.place ≡ length bs → IsNumbered (b ∷ bs) (shape_in way params b.static_type) →
+    slot_at params (length bs) < length m.slots → b.place ≡ length bs → IsNumbered (b ∷ bs) (name_shape way params b) →
     NamesNoChild b.static_type →
-    Ready way params (b ∷ bs) (fixed_to (slot_at params (suc (length bs))) (set_mark m (slot_at params (length bs)) (shape_in way params b.static_type) []))
+    Ready way params (b ∷ bs) (fixed_to (slot_at params (suc (length bs))) (set_mark m (slot_at params (length bs)) (name_shape way params b) []))
 named_more way params bs m b r hi e numbered none = record {
   named = (
     e,
-    ap (λ y. slice_get (slice_set m.slots (slot_at params (length bs)) (shape_in way params b.static_type)) (slot_at params y)) e
+    ap (λ y. slice_get (slice_set m.slots (slot_at params (length bs)) (name_shape way params b)) (slot_at params y)) e
         ∙ get_set m.slots _ _ hi,
     named_behind way params m.slots bs _ _ r.named (omega arith),
   );
@@ -87,8 +105,8 @@ named_more way params bs m b r hi e numbered none = record {
   free = λ j l h.
       let next = slot_next params (length bs) r.low in
       get_other m.slots _ j _ (λ q. omega (arith, q, l, next))
-      ∙ r.free j (omega (arith, l, next)) (omega (arith, h, length-set m.slots (slot_at params (length bs)) (shape_in way params b.static_type)));
-  numbered = numbered_set (b ∷ bs) m.slots (slot_at params (length bs)) (shape_in way params b.static_type) (each_numbered bs b m.slots r.numbered) numbered;
+      ∙ r.free j (omega (arith, l, next)) (omega (arith, h, length-set m.slots (slot_at params (length bs)) (name_shape way params b)));
+  numbered = numbered_set (b ∷ bs) m.slots (slot_at params (length bs)) (name_shape way params b) (each_numbered bs b m.slots r.numbered) numbered;
   facts = steady_below params (length bs) (suc (length bs)) (loops_in way bs) (loops_in way (b ∷ bs)) m.facts (omega arith) (loop_more way b bs) r.facts;
   low = omega (arith, r.low);
   fixed = refl;
@@ -169,27 +187,44 @@ module _ (g : Program) (t : TaskCode) (k slots : ℕ) (have : HasSlots t slots) 
       (truth_shape _ h) (value_marked e us f simple told pc st)
 
   -- a value of a type is stored as that of a new name of an alike type
-  pub bind_marked : (n : Name) (a : Shape) (u : StaticType) (p : Piece) → ((x : World) (v : Value) → Is x a v → Is x (shape_in way w.params u) v) →
+  pub bind_by : (n : Name) (a : Shape) (u : StaticType) (q : Piece) → ((x : World) (v : Value) → Is x a v → Is x (name_shape way w.params (new_name n u)) v) →
       IsNumbered (new_name n u ∷ w.scope.names) (shape_in way w.params u) → Scoped forms.keeps way (new_name n u ∷ w.scope.names) →
       Cut forms.keeps way w.tree w.params m.facts (new_name n u ∷ w.scope.names) → NamesNoChild u →
-      Marked g t k (stacked m []) p (stacked m (a ∷ [])) → slot_at w.params (length w.scope.names) < length m.slots →
+      ((o : Mark) → Marked g t k (stacked m (a ∷ [])) (op (instr.Store (slot_at w.params (length w.scope.names))) w.line) o → Marked g t k (stacked m []) q o) → slot_at w.params (length w.scope.names) < length m.slots →
       Followed g t k forms.keeps way w.tree w.params (new_name n u ∷ w.scope.names) m
-      (p ⨟ op (instr.Store (slot_at w.params (length w.scope.names))) w.line)
-  bind_marked n a u p becomes numbered scoped cut none f hi =
+      q
+  bind_by n a u q becomes numbered scoped cut none f hi =
       let r = asked.ready in
       let s = slot_at w.params (length w.scope.names) in
       record {
-        next = fixed_to (slot_at w.params (suc (length w.scope.names))) (set_mark m s (shape_in way w.params u) []);
-        is = fixing g t k _ (set_mark m s (shape_in way w.params u) []) _ _ (both g t k f (storing g t k m s a (shape_in way w.params u) [] w.line (behind_kept way w.params w.scope.names m s r (omega arith))
-            (omega (arith, slot_high w.params (length w.scope.names) r.low, asked.params)) (omega (arith, r.fixed)) (plain_in way w.params u) hi
+        next = fixed_to (slot_at w.params (suc (length w.scope.names))) (set_mark m s (name_shape way w.params (new_name n u)) []);
+        is = fixing g t k _ (set_mark m s (name_shape way w.params (new_name n u)) []) _ _ (f _ (storing g t k m s a (name_shape way w.params (new_name n u)) [] w.line (behind_kept way w.params w.scope.names m s r (omega arith))
+            (omega (arith, slot_high w.params (length w.scope.names) r.low, asked.params)) (omega (arith, r.fixed)) (slot_bare (nat_lt (length w.scope.names) w.params) (shape_in way w.params u) (plain_in way w.params u)) hi
             becomes));
-        ready = named_more way w.params w.scope.names m (new_name n u) r hi refl numbered none;
+        ready = named_more way w.params w.scope.names m (new_name n u) r hi refl (slot_numbered (new_name n u ∷ w.scope.names) (nat_lt (length w.scope.names) w.params) (shape_in way w.params u) numbered) none;
         narrower = narrow_set m.slots m.slots s _ (narrow_itself m.slots) (inl (r.free s (omega arith) hi));
         facts = λ l a. a;
         new = λ l a. inl a;
         scoped = scoped;
         cut = cut;
       }
+
+  pub bind_as : (n : Name) (a : Shape) (u : StaticType) (p : Piece) → ((x : World) (v : Value) → Is x a v → Is x (name_shape way w.params (new_name n u)) v) →
+      IsNumbered (new_name n u ∷ w.scope.names) (shape_in way w.params u) → Scoped forms.keeps way (new_name n u ∷ w.scope.names) →
+      Cut forms.keeps way w.tree w.params m.facts (new_name n u ∷ w.scope.names) → NamesNoChild u →
+      Marked g t k (stacked m []) p (stacked m (a ∷ [])) → slot_at w.params (length w.scope.names) < length m.slots →
+      Followed g t k forms.keeps way w.tree w.params (new_name n u ∷ w.scope.names) m
+      (p ⨟ op (instr.Store (slot_at w.params (length w.scope.names))) w.line)
+  bind_as n a u p becomes numbered scoped cut none f hi =
+      bind_by n a u (p ⨟ op (instr.Store (slot_at w.params (length w.scope.names))) w.line) becomes numbered scoped cut none (λ o h. both g t k f h) hi
+
+  pub bind_marked : (n : Name) (a : Shape) (u : StaticType) (p : Piece) → ((x : World) (v : Value) → Is x a v → Is x (shape_in way w.params u) v) →
+      IsNumbered (new_name n u ∷ w.scope.names) (shape_in way w.params u) → Scoped forms.keeps way (new_name n u ∷ w.scope.names) →
+      Cut forms.keeps way w.tree w.params m.facts (new_name n u ∷ w.scope.names) → NamesNoChild u →
+      Marked g t k (stacked m []) p (stacked m (a ∷ [])) → slot_at w.params (length w.scope.names) < length m.slots →
+      Followed g t k forms.keeps way w.tree w.params (new_name n u ∷ w.scope.names) m
+      (p ⨟ op (instr.Store (slot_at w.params (length w.scope.names))) w.line)
+  bind_marked n a u p becomes = bind_as n a u p (λ x v h. slot_is x (nat_lt (length w.scope.names) w.params) (shape_in way w.params u) v (becomes x v h))
 
   pub zero_marked : (u : StaticType) → HasZero u →
       Marked g t k (stacked m []) (one w (instr.Num (zero_kept u))) (stacked m (shape_of u ∷ []))
@@ -235,16 +270,26 @@ module _ (g : Program) (t : TaskCode) (k slots : ℕ) (have : HasSlots t slots) 
       few = subst (λ n. n ≤ 256) (sym (ap (λ y. length y.fields) (get_or-map space_code (spaces_of w.tree) sp _)
           ∙ length-map (space_at w.tree sp).fields _)) can.few
 
+  -- where what the rules tell of a call is told
   pub assign_marked : (x : Name) (e : Expression) → Becomes (typed w e) (bound w x).static_type → IsWorth (bound w x).static_type → IsTyped forms w e →
-      Asks forms.keeps (is_whole_expression true w e) → Told way w.tree w.scope e → is_bound w.scope.names x ≡ true → MayStore way (bound w x) → slot_named w x < length m.slots → (pc : ℕ) →
-      Stands t.body pc (expr_code w 0 e) → Followed g t k forms.keeps way w.tree w.params w.scope.names m (form_code w (assign_form x no_step how.Set e))
-  assign_marked x e goes is f whole told b free hi pc st =
+      Asks forms.keeps (is_whole_expression true w e) → Told way w.tree w.scope e → is_bound w.scope.names x ≡ true → MayStore way (bound w x) → (pc : ℕ) →
+      Stands t.body pc (form_code w (assign_form x no_step how.Set e)) → Followed g t k forms.keeps way w.tree w.params w.scope.names m (form_code w (assign_form x no_step how.Set e))
+  assign_marked x e goes is f whole told b free pc =
       let r = asked.ready in
-      let h = named_at way w.params m.slots w.scope.names x r.named b ∙ ap Some (worth_named way w.params _ is) in
-      unchanged g t k forms.keeps way w.tree _ _ m _ r asked.scoped asked.cut (both g t k (both g t k (value_marked e [] f whole told pc st)
+      let h = named_at way w.params m.slots w.scope.names x r.named b ∙ ap (λ s. Some (slot_shape (is_still w.params (bound w x)) s)) (worth_named way w.params _ is) in
+      assigned_either (λ p. Stands t.body pc p → Followed g t k forms.keeps way w.tree w.params w.scope.names m p) w (slot_named w x)
+      (right_code w x no_step how.Set e ⨟ target_code w x no_step how.Set)
+      (λ st. unchanged g t k forms.keeps way w.tree _ _ m _ r asked.scoped asked.cut (both g t k (both g t k (value_marked e [] f whole told pc st.0.0)
       (converted_marked g t k slots have forms way w m asked _ _ [] goes (worth_few _ is)))
-      (keeping g t k m (slot_named w x) (shape_of (bound w x).static_type) w.line
-      (named_kept way w.params w.scope.names m x r b free) (kept_bare _ is) hi h))
+      (keeping_slot g t k m (slot_named w x) (is_still w.params (bound w x)) (shape_of (bound w x).static_type) w.line
+      (named_kept way w.params w.scope.names m x r b free) (kept_bare _ is) (slot_kept _ _ is) (stored g t k slots have forms way w m asked _ (slot_named w x) st.1) h))) x no_step how.Set e
+      (λ task args same keeps still. subst (λ e. IsTyped forms w e → Asks forms.keeps (is_whole_expression true w e) → Told way w.tree w.scope e →
+      Stands t.body pc (put_call w (slot_named w x) task args) → Followed g t k forms.keeps way w.tree w.params w.scope.names m (put_call w (slot_named w x) task args)) (sym same)
+      (λ f whole told st. unchanged g t k forms.keeps way w.tree _ _ m _ r asked.scoped asked.cut
+      (call_left g t k slots have forms way w m asked task args [] f whole told pc st.0 _ _
+      (keeping_call g t k m (slot_named w x) (typed w (call_expr task args)) (bound w x).static_type w.line keeps
+      (named_kept way w.params w.scope.names m x r b free) (stored g t k slots have forms way w m asked _ (slot_named w x) st.1.1)
+      (h ∙ ap (λ c. Some (slot_shape c (shape_of (bound w x).static_type))) still)))) f whole told)
 
   pub return_marked : (e : Expression) → GivesBack (typed w e) w.result → IsTyped forms w e → Asks forms.keeps (is_whole_expression true w e) → Told way w.tree w.scope e → (pc : ℕ) → Stands t.body pc (expr_code w 0 e) →
       Followed g t k forms.keeps way w.tree w.params w.scope.names m (form_code w (return_form (Some e)))

@@ -25,6 +25,10 @@ use Rattle.fit_rules.specs.Marks.{Into, Mark, stacked}
 use Rattle.fit_rules.specs.Fits.{Program}
 use Rattle.fit_rules.specs.Sound.{IsSound}
 use Rattle.marked_code.specs.Marked.{Typed}
+use Rattle.std.proofs.Common.{◌||◌, nat_lt, Bool, true, false}
+use Rattle.std.proofs.lemmas.Bool.{lt-ltb}
+use Rattle.sound_code.proofs.SlotShapes.{partition_plain, pointer_plain, region_plain, slot_bare, slot_is, slot_numbered, slot_plain}
+use Rattle.sound_code.specs.Named.{name_shape, slot_shape}
 use Rattle.sound_code.specs.Named.{slot_at, AreNamed, HasSlots, Ready, loops_in}
 use Rattle.sound_code.specs.Ways.{Way, all_made, by_rules, opening_facts, shape_in, shape_of}
 use Rattle.sound_code.proofs.WholeTasks.{is_whole_task}
@@ -55,6 +59,10 @@ at_seam : (f : StaticType → Shape) (xs ys : List StaticType) (y : StaticType) 
 at_seam f [] ys y zs = refl
 at_seam f (x ∷ xs) ys y zs = at_seam f xs ys y zs
 
+or_true : (a b : Bool) → b ≡ true → (a || b) ≡ true
+or_true true b e = refl
+or_true false b e = e
+
 named_open : (way : Way) (params : ℕ) (bs : List Bound) (more : List StaticType) (blanks : List Shape) → AreFrom 0 bs →
     length bs ≤ params → AreNamed way params (map (shape_in way params) (types_in bs ++ more) ++ blanks) bs
 named_open way params [] more blanks a l = tt
@@ -65,7 +73,8 @@ named_open way params (b ∷ bs) more blanks a l =
     let place : slot_at params b.place ≡ length (types_in bs) = omega (arith, a.0, l, types_length bs) in
     subst (λ ts. AreNamed way params (map f ts ++ blanks) (b ∷ bs)) (sym eq) (
       omega (arith, a.0),
-      ap (slice_get (map f (types_in bs ++ b.static_type ∷ more) ++ blanks)) place ∙ at_seam f (types_in bs) more b.static_type blanks,
+      ap (slice_get (map f (types_in bs ++ b.static_type ∷ more) ++ blanks)) place ∙ at_seam f (types_in bs) more b.static_type blanks
+          ∙ ap (λ c. Some (slot_shape c (f b.static_type))) (sym (or_true b.by_loop (nat_lt b.place params) (lt-ltb b.place params (omega (arith, a.0, l))))),
       named_open way params bs (b.static_type ∷ more) blanks a.1 (omega (arith, l)),
     )
 

@@ -1,5 +1,5 @@
 -- The shapes of names in scope: what a mark between two statements says.
-use Rattle.std.specs.Prelude.{◌≡◌, ℕ, zero, suc, ◌<◌, ◌≤◌, ◌+◌, ◌*◌, ◌-◌, List, [], ◌∷◌, length, map, Some, slice_get, true}
+use Rattle.std.specs.Prelude.{◌≡◌, ℕ, zero, suc, ◌<◌, ◌≤◌, ◌+◌, ◌*◌, ◌-◌, List, [], ◌∷◌, length, map, Some, slice_get, nat_lt, Bool, false, true, ◌||◌}
 use Rattle.regent_tree.specs.Accesses.{space_in}
 use Rattle.regent_tree.specs.Scopes.{bound_as}
 use Rattle.regent_tree.specs.Typing.{parent_of}
@@ -12,8 +12,9 @@ use Rattle.task_code.specs.declared.code.Line.{Line}
 use Rattle.task_code.specs.declared.code.TaskCode.{TaskCode}
 use Rattle.machine_terms.specs.Jumps.{fetch}
 use Rattle.code_rules.specs.Used.{slots_used}
-use Rattle.fit_rules.specs.Shapes.{Among, cut_from, Each, Shape, anything, child_at, held_at, region, Origin, own_as, part}
+use Rattle.fit_rules.specs.Shapes.{awaited, index, integer, truth, Among, cut_from, Each, Shape, anything, child_at, held_at, region, Origin, own_as, part}
 use Rattle.fit_rules.specs.Marks.{any_colour, apart, child_in, Colour, colour_in, counts, Fact, in_slot, lies, Mark, parted, point_in, the_colour}
+pub use Rattle.code_rules.specs.Statements.{is_still}
 use Rattle.sound_code.specs.Ways.{all_made, by_rules, Way, origin_in, shape_in}
 use Rattle.code_laws.specs.Coloured.{IsBoundIn}
 
@@ -21,11 +22,25 @@ use Rattle.code_laws.specs.Coloured.{IsBoundIn}
 abbrev pub slot_at : ℕ → ℕ → ℕ
 slot_at params place = place + 2 * (place - params)
 
+-- In the slot of a number that may be assigned a child may be pending. That of a parameter and of a loop's variable may not be.
+abbrev pub pended : Shape → Shape
+pended (integer w) = awaited (integer w)
+pended truth = awaited truth
+pended index = awaited index
+pended s = s
+
+abbrev pub slot_shape : Bool → Shape → Shape
+slot_shape true s = s
+slot_shape false s = pended s
+
+abbrev pub name_shape : Way → ℕ → Bound → Shape
+name_shape way params b = slot_shape (is_still params b) (shape_in way params b.static_type)
+
 -- the names in scope stand in their slots
 abbrev pub AreNamed : Way → ℕ → List Shape → List Bound → Type 0
 AreNamed way params ss [] = Unit {0}
 AreNamed way params ss (b ∷ bs) = (b.place ≡ length bs)
-    × (slice_get ss (slot_at params b.place) ≡ Some (shape_in way params b.static_type)) × AreNamed way params ss bs
+    × (slice_get ss (slot_at params b.place) ≡ Some (name_shape way params b)) × AreNamed way params ss bs
 
 -- each slot that an instruction names is there
 abbrev pub HasSlots : TaskCode → ℕ → Type 0
@@ -101,8 +116,7 @@ loops_in (by_rules tops task) bs = bs
 
 -- the slots behind those of names of which nothing is known, where so many spare slots are in use
 abbrev pub IsFreeFrom : ℕ → ℕ → ℕ → Type 0
-IsFreeFrom zero n s = n ≤ s
-IsFreeFrom (suc d) n s = n + 3 + d ≤ s
+IsFreeFrom d n s = n + 3 * d ≤ s
 
 -- A mark stands between two statements, or within one, where so many spare slots are in use: the names have their shapes, of the slots behind those of the
 -- names nothing is known, roots are those of names, and facts speak of the counters of loops around, of parameters, of

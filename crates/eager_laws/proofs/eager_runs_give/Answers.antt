@@ -1,0 +1,5 @@
+use Rattle.eager_laws.proofs.Carrying.{eager_runs_give as law}
+use Rattle.eager_laws.proofs.eager_runs_give.Goals as goal
+
+pub returns : goal.returns
+returns c = law
