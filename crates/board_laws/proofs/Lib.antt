@@ -18,3 +18,4 @@ pub mod Held
 pub mod Calm
 pub mod Ready
 pub mod Backs
+pub mod KnownOutcomes

@@ -4,6 +4,7 @@
 ghost use Rattle.board_rules.specs.Apart.{FilledFromMap, HeldApart, InProgressApart};
 ghost use Rattle.board_rules.specs.Backs.{TakenBack};
 ghost use Rattle.board_rules.specs.Journals.{FinishedAsOrdered};
+ghost use Rattle.board_rules.specs.Known.{SettledAsOrdered};
 ghost use Rattle.board_rules.specs.Ready.{SomeReady};
 
 use board_rules::OrderedMachine;
@@ -12,6 +13,12 @@ use board_rules::OrderedMachine;
 #[tactic(auto, using(crate::proofs::Outcomes::finished_as_ordered))]
 pub fn finished_as_ordered<T: OrderedMachine>()
     ensures { FinishedAsOrdered T.terms T.machine }
+{}
+
+/// Where a fault comes before all that isn't over, the run in order ends at it.
+#[tactic(auto, using(crate::proofs::KnownOutcomes::settled_as_ordered))]
+pub fn settled_as_ordered<T: OrderedMachine>()
+    ensures { SettledAsOrdered T.terms T.machine }
 {}
 
 /// Operations in progress, neither the other's ancestor, don't interfere.

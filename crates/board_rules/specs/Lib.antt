@@ -12,3 +12,4 @@ pub mod NumberedBoards
 pub mod Renaming
 pub mod RootNames
 pub mod ByNumber
+pub mod Known

@@ -8,3 +8,4 @@ pub mod Outcomes
 pub mod Replays
 pub mod Stages
 pub mod States
+pub mod Settled

@@ -11,13 +11,13 @@ use Rattle.regent_boards.specs.Laws.{by_number}
 use Rattle.regent_boards.specs.RegentMachine.{regent_ground}
 use Rattle.regent_boards.specs.RootRenaming.{renamed_frame, renamed_value}
 use Rattle.regent_boards.specs.Frames as board
-use Rattle.code_boards.specs.Laws.{JobsFinishInOrder, OrderRunsEnd, main_frame, main_of, room, segments_of, segments_of_all}
+use Rattle.code_boards.specs.Laws.{JobsFinishInOrder, JobsSettleInOrder, OrderRunsEnd, main_frame, main_of, room, segments_of, segments_of_all}
 use Rattle.code_boards.specs.Views.{board_segment, spaces_of}
 use Rattle.code_boards.proofs.Lasting.{bound, bound_most, here, lasts, most}
 use Rattle.order_laws.proofs.Rounds.{ends_soon}
 use Rattle.order_laws.proofs.Waits.{twice_is}
 use Rattle.machine_terms.proofs.Fuel.{anywhere}
-use Rattle.code_boards.proofs.Boards.{boards_finish_in_order}
+use Rattle.code_boards.proofs.Boards.{boards_finish_in_order, boards_settle_in_order}
 
 -- ---- the number of segments
 
@@ -74,4 +74,10 @@ pub jobs_finish_in_order : JobsFinishInOrder
 jobs_finish_in_order job t steps b found made finished =
     boards_finish_in_order job.code job.turns (main_of job t)
     (record { frame = main_names_no_root job t; needs = refl; map = λ l. refl }) steps b (room job) made finished
+    (order_runs_end job t found)
+
+pub jobs_settle_in_order : JobsSettleInOrder
+jobs_settle_in_order job t steps b x text found made settled =
+    boards_settle_in_order job.code job.turns (main_of job t)
+    (record { frame = main_names_no_root job t; needs = refl; map = λ l. refl }) steps b (room job) x text made settled
     (order_runs_end job t found)

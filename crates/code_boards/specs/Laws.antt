@@ -6,12 +6,13 @@ use Rattle.task_code.specs.declared.code.TaskCode.{TaskCode}
 use Rattle.machine_terms.specs.Segments.{segment}
 use Rattle.board_rules.specs.Boards.{is_over, stage_of}
 use Rattle.board_rules.specs.ByNumber.{Agrees, in_order, on_board}
-use Rattle.board_rules.specs.Journals.{Job as BoardJob, Outcome, answered, told, unfinished}
+use Rattle.board_rules.specs.Journals.{Job as BoardJob, Outcome, answered, faulted, told, unfinished}
+use Rattle.board_rules.specs.Known.{known, stops_at}
 use Rattle.board_rules.specs.NumberedBoards.{Board, Step, board_of, entries, start}
 use Rattle.board_rules.specs.NumberedRuns.{numbered_order_run}
 use Rattle.board_rules.specs.Running.{Element, Machine}
 use Rattle.regent_boards.specs.Frames as board
-use Rattle.regent_boards.specs.Laws.{FinishedInOrder, KeepsOrder, by_maker, by_number, to_makers}
+use Rattle.regent_boards.specs.Laws.{FinishedInOrder, KeepsOrder, SettledInOrder, by_maker, by_number, to_makers}
 use Rattle.regent_boards.specs.RegentMachine.{base, regent_ground, regent_roots}
 use Rattle.code_boards.specs.Views.{before_in, board_segment, numbers_in_parts, parts_in, spaces_of}
 
@@ -23,6 +24,10 @@ BoardsKeepOrder = (code : Code) (turns : ℕ) → KeepsOrder (spaces_of code) (b
 -- ends.
 abbrev pub BoardsFinishInOrder : Type 0
 BoardsFinishInOrder = (code : Code) (turns : ℕ) → FinishedInOrder (spaces_of code) (board_segment code turns)
+
+-- And one on which a fault comes before all that isn't over tells how that run ends.
+abbrev pub BoardsSettleInOrder : Type 0
+BoardsSettleInOrder = (code : Code) (turns : ℕ) → SettledInOrder (spaces_of code) (board_segment code turns)
 
 -- ---- jobs
 
@@ -92,6 +97,13 @@ JobsFinishInOrder = (job : Job) (t : TaskCode) (steps : List Step) (b : Board (r
     board_of (regent_ground (spaces_of job.code)) (machine_of job) (main_of job t) steps ≡ Some b →
     is_over (regent_ground (spaces_of job.code)) (stage_of (regent_ground (spaces_of job.code)) b.state.tree) ≡ true →
     AgreesWithOrder job t steps b
+
+-- and where a fault comes before all that isn't over, the run in order ends at it
+abbrev pub JobsSettleInOrder : Type 0
+JobsSettleInOrder = (job : Job) (t : TaskCode) (steps : List Step) (b : Board (regent_ground (spaces_of job.code))) (x : board.Stop) (text : List ℕ) →
+    slice_get job.code.tasks job.code.start ≡ Some t →
+    board_of (regent_ground (spaces_of job.code)) (machine_of job) (main_of job t) steps ≡ Some b →
+    known (regent_ground (spaces_of job.code)) b.state.tree ≡ stops_at x text → ordered (room job) job t ≡ faulted text x
 
 -- ---- what the board sees of parts
 

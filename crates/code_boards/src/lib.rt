@@ -5,7 +5,7 @@
 #![tactic(auto)]
 
 ghost use Rattle.code_boards.specs.Example.{BoardPrints, EmptyNeedBreaks, OrderPrints};
-ghost use Rattle.code_boards.specs.Laws.{BoardsFinishInOrder, BoardsKeepOrder, ElementsAreParts, JobsFinishInOrder, OrderRunsEnd};
+ghost use Rattle.code_boards.specs.Laws.{BoardsFinishInOrder, BoardsKeepOrder, ElementsAreParts, JobsFinishInOrder, JobsSettleInOrder, OrderRunsEnd};
 ghost use Rattle.code_boards.specs.Pieces.{PiecesRegroup};
 
 /// Of each code: a finished board has the outcome of the run in order, operations in progress don't interfere, a
@@ -34,6 +34,11 @@ pub fn order_runs_end()
 /// order.
 pub fn jobs_finish_in_order()
     ensures { JobsFinishInOrder }
+{}
+
+/// Of each job, too: where a fault comes before all that isn't over, the run in order ends at it.
+pub fn jobs_settle_in_order()
+    ensures { JobsSettleInOrder }
 {}
 
 /// A job with a root and a child, run in order and on a board of three seats; and one whose child needs an empty

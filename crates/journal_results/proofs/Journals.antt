@@ -117,7 +117,7 @@ module _ (gives : GivesShow) (job : Job) where
   no_step Back zero seat = refl
   no_step Back (suc k) seat = refl
 
-  void_stays : (es : List Entry) (s : State) → replay_from job (Some void_state) es ≡ Some s → void_state ≡ s
+  pub void_stays : (es : List Entry) (s : State) → replay_from job (Some void_state) es ≡ Some s → void_state ≡ s
   void_stays [] s e = same_Some void_state s e
   void_stays (x ∷ es) s e = absurd (none-some s (sym (replay_none job es) ∙ ap (λ o. replay_from job o es) (sym (no_step x.kind x.op.0 x.seat)) ∙ e))
 

@@ -1,3 +1,4 @@
 pub mod Yields
 pub mod Gives
 pub mod Journals
+pub mod Settled

@@ -5,6 +5,7 @@
 
 ghost use Rattle.journal_results.specs.Gives.{GivesShow};
 ghost use Rattle.journal_results.specs.Laws.{ResultsAreOrdered};
+ghost use Rattle.journal_results.specs.Settled.{SettledIsOrdered};
 
 /// A segment is given back on a board's state and in the tree of the boards' laws, or on neither, and then the state shows the
 /// tree again.
@@ -16,4 +17,9 @@ pub fn gives_show()
 /// that it has none.
 pub fn results_are_ordered()
     ensures { ResultsAreOrdered }
+{}
+
+/// Where a fault comes before all that isn't over, the outcome that a board settles is that of the run in order.
+pub fn settled_is_ordered()
+    ensures { SettledIsOrdered }
 {}

@@ -6,3 +6,4 @@ pub mod RunByNumber
 pub mod RunNames
 pub mod Outcomes
 pub mod ByNumber
+pub mod Known

@@ -38,7 +38,7 @@ module _ (B : Base) (X Y : Roots B) (M : ℕ → Machine (ground_over B X)) (K :
   )
 
   -- the same text, answer and fault, and maps that are alike by a renaming
-  abbrev SameOutcome : (X.Location → Y.Location) → Outcome (ground_over B X) → Outcome (ground_over B Y) → Type 0
+  abbrev pub SameOutcome : (X.Location → Y.Location) → Outcome (ground_over B X) → Outcome (ground_over B Y) → Type 0
   SameOutcome loc (finished t a m) (finished s b u) = (t ≡ s) × (a ≡ b) × ((l : X.Location) → u (loc l) ≡ m l)
   SameOutcome loc (faulted t x) (faulted s y) = (t ≡ s) × (x ≡ y)
   SameOutcome loc unfinished unfinished = Unit {0}
@@ -82,7 +82,7 @@ module _ (B : Base) (X Y : Roots B) (M : ℕ → Machine (ground_over B X)) (K :
   agreed x t c m v one two h (faulted w y) unfinished a e z = absurd a
   agreed x t c m v one two h unfinished s a e z = absurd (z refl)
 
-  same_ended : (two : X.Location → Y.Location) (q : Outcome (ground_over B X)) (s : Outcome (ground_over B Y)) → SameOutcome two q s → ¬ (q ≡ unfinished) → ¬ (s ≡ unfinished)
+  pub same_ended : (two : X.Location → Y.Location) (q : Outcome (ground_over B X)) (s : Outcome (ground_over B Y)) → SameOutcome two q s → ¬ (q ≡ unfinished) → ¬ (s ≡ unfinished)
   same_ended two (finished t b m) (finished s d u) a n i = absurd cc
   same_ended two (finished t b m) (faulted s y) a n i = absurd a
   same_ended two (finished t b m) unfinished a n i = absurd a
@@ -92,7 +92,7 @@ module _ (B : Base) (X Y : Roots B) (M : ℕ → Machine (ground_over B X)) (K :
   same_ended two unfinished s a n i = n refl
 
   module _ (job : Job (ground_over B X)) (named : Job (ground_over B Y)) (can : Renamable B X Y M K rename job named) where
-    order_runs_same : (k : ℕ) → SameOutcome (in_order B X Y M K rename k job) (numbered_order_run (ground_over B X) M k job) (order_run (ground_over B Y) K k named)
+    pub order_runs_same : (k : ℕ) → SameOutcome (in_order B X Y M K rename k job) (numbered_order_run (ground_over B X) M k job) (order_run (ground_over B Y) K k named)
     order_runs_same k = by_result (numbered_run (ground_over B X) M k [] job.needs 0 job.frame [] [] 0 job.map).result (run_on (ground_over B Y) K k [] named.needs 0 named.frame [] [] named.map) same
       where
         made : List Making

@@ -2,6 +2,7 @@
 #![tactic(auto)]
 
 ghost use Rattle.board_rules.specs.ByNumber.{FinishedByNumber};
+ghost use Rattle.board_rules.specs.Known.{SettledByNumber};
 
 use board_rules::NumberedMachine;
 
@@ -9,4 +10,10 @@ use board_rules::NumberedMachine;
 #[tactic(auto, using(crate::proofs::ByNumber::finished_by_number))]
 pub fn finished_by_number<T: NumberedMachine>()
     ensures { FinishedByNumber T.base T.numbered T.named T.machines T.naming T.rename T.is_job }
+{}
+
+/// Where a fault comes before all that isn't over, the run in order ends at it.
+#[tactic(auto, using(crate::proofs::Known::settled_by_number))]
+pub fn settled_by_number<T: NumberedMachine>()
+    ensures { SettledByNumber T.base T.numbered T.machines T.is_job }
 {}

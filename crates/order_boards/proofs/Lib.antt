@@ -19,3 +19,4 @@ pub mod Jobs
 pub mod FirstTask
 pub mod Finished
 pub mod Example
+pub mod Settled

@@ -3,3 +3,4 @@ pub mod Laws
 pub mod Finished
 pub mod Jobs
 pub mod Example
+pub mod Settled

@@ -7,6 +7,7 @@
 ghost use Rattle.order_boards.specs.Example.{BothAreBroken, FirstRootHolds};
 ghost use Rattle.order_boards.specs.Jobs.{BoardsAgree};
 ghost use Rattle.order_boards.specs.Laws.{OrderRunsAgree};
+ghost use Rattle.order_boards.specs.Settled.{SettledBoardsAgree};
 
 /// Of each job that isn't void, compiled or not: the machine's run in order has the text, the root images, and the
 /// fault or Broken of the run by numbers.
@@ -19,6 +20,11 @@ pub fn order_runs_agree()
 /// the outcome of the machine's run in order; a void job is Broken from the beginning.
 pub fn boards_agree()
     ensures { BoardsAgree }
+{}
+
+/// Where a fault comes before all that isn't over, the machine's run in order ends at it.
+pub fn settled_boards_agree()
+    ensures { SettledBoardsAgree }
 {}
 
 /// A job with a root and a child, and one whose child needs an empty region alone: the machine's run in order has the

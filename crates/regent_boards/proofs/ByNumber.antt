@@ -4,10 +4,11 @@ use Rattle.board_rules.specs.ByNumber.{Differ, Renamable}
 use Rattle.board_rules.specs.Journals.{Job}
 use Rattle.board_rules.specs.Running.{After, Element}
 use Rattle.number_laws.proofs.ByNumber.{finished_by_number}
+use Rattle.number_laws.proofs.Known.{settled_by_number}
 use Rattle.number_codes.specs.Lists.{decoded_list}
 use Rattle.number_codes.proofs.Lists.{lists_tell}
 use Rattle.regent_boards.specs.Frames.{Frame, Spaces}
-use Rattle.regent_boards.specs.Laws.{IsMain, KeepsParts, RegentByNumber, RunsRenamed, by_maker, by_number, to_makers}
+use Rattle.regent_boards.specs.Laws.{IsMain, KeepsParts, RegentByNumber, RegentSettled, RunsRenamed, by_maker, by_number, to_makers}
 use Rattle.regent_boards.specs.RegentMachine.{base, behind_first, name_of, regent_ground, regent_roots}
 use Rattle.regent_boards.specs.RootRenaming.{requirement_to}
 use Rattle.regent_boards.proofs.NeedLaws.{regent_laws}
@@ -51,4 +52,9 @@ module _ (spaces : Spaces) (segment : Frame → List (Element (regent_ground spa
 pub regent_by_number : RegentByNumber
 regent_by_number spaces segment keeps runs =
     finished_by_number base (regent_roots spaces) (regent_roots spaces) (by_number spaces segment) (by_maker spaces segment) (to_makers spaces segment)
+    (regent_laws spaces segment keeps) (IsMain spaces segment) (can_rename spaces segment keeps runs)
+
+pub regent_settled : RegentSettled
+regent_settled spaces segment keeps runs =
+    settled_by_number base (regent_roots spaces) (regent_roots spaces) (by_number spaces segment) (by_maker spaces segment) (to_makers spaces segment)
     (regent_laws spaces segment keeps) (IsMain spaces segment) (can_rename spaces segment keeps runs)

@@ -1,6 +1,7 @@
 -- The laws of Regent boards, over every segment that gives back the parts that it was given.
 use Rattle.std.specs.Prelude.{◌≡◌, List, [], pos, ℕ}
 use Rattle.board_rules.specs.Journals.{FinishedAsOrdered, Job}
+use Rattle.board_rules.specs.Known.{SettledByNumber}
 use Rattle.board_rules.specs.Ready.{SomeReady}
 use Rattle.board_rules.specs.Running.{After, Element, Machine, spots}
 use Rattle.regent_boards.specs.RegentMachine.{base, name_of, regent_ground, regent_machine, regent_roots}
@@ -59,6 +60,10 @@ module _ (spaces : Spaces) (segment : Frame → List (Element (regent_ground spa
   abbrev pub FinishedInOrder : Type 0
   FinishedInOrder = FinishedByNumber base (regent_roots spaces) (regent_roots spaces) by_number by_maker to_makers IsMain
 
+  -- and one on which a fault comes before all that isn't over tells how the run in order ends
+  abbrev pub SettledInOrder : Type 0
+  SettledInOrder = SettledByNumber base (regent_roots spaces) by_number IsMain
+
 abbrev pub RegentBoards : Type 0
 RegentBoards = (spaces : Spaces) (segment : Frame → List (Element (regent_ground spaces)) → After (regent_ground spaces)) →
     KeepsParts spaces segment → KeepsOrder spaces segment
@@ -66,3 +71,7 @@ RegentBoards = (spaces : Spaces) (segment : Frame → List (Element (regent_grou
 abbrev pub RegentByNumber : Type 0
 RegentByNumber = (spaces : Spaces) (segment : Frame → List (Element (regent_ground spaces)) → After (regent_ground spaces)) →
     KeepsParts spaces segment → RunsRenamed spaces segment → FinishedInOrder spaces segment
+
+abbrev pub RegentSettled : Type 0
+RegentSettled = (spaces : Spaces) (segment : Frame → List (Element (regent_ground spaces)) → After (regent_ground spaces)) →
+    KeepsParts spaces segment → RunsRenamed spaces segment → SettledInOrder spaces segment

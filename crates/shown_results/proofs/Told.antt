@@ -111,15 +111,15 @@ module _ (job : Job) where
 
   -- ---- where text stands among children
 
-  abbrev HeadAbove : ℕ → List Said → Type 0
+  abbrev pub HeadAbove : ℕ → List Said → Type 0
   HeadAbove c [] = Unit {0}
   HeadAbove c (p ∷ ps) = c ≤ p.children
 
-  head_lower : (c : ℕ) (ps : List Said) → HeadAbove (suc c) ps → HeadAbove c ps
+  pub head_lower : (c : ℕ) (ps : List Said) → HeadAbove (suc c) ps → HeadAbove c ps
   head_lower c [] h = tt
   head_lower c (p ∷ ps) h = omega (arith, h)
 
-  said_above : (c : ℕ) (is : Items G) → HeadAbove c (said_in job c is)
+  pub said_above : (c : ℕ) (is : Items G) → HeadAbove c (said_in job c is)
   said_above c no_item = tt
   said_above c (said [] is) = said_above c is
   said_above c (said (x ∷ xs) is) = omega arith

@@ -1,0 +1,5 @@
+use Rattle.journal_results.proofs.Settled.{settled_is_ordered}
+use Rattle.journal_results.proofs.settled_is_ordered.Goals as goal
+
+pub returns : goal.returns
+returns c = settled_is_ordered
