@@ -25,9 +25,10 @@ use Rattle.machine_terms.specs.Makes.{fields_needed, is_sound, make_partition, r
 use Rattle.machine_terms.specs.Orders.{Runner, before_of, breaks, call_all, conclude, fetch_part, give_all, make, resume_after, run_segments, with_parts}
 use Rattle.machine_terms.specs.Segments.{segment}
 use Rattle.plain_store.specs.declared.holder.Holder.{Holder}
-use Rattle.plain_store.specs.declared.holder.Next.{Next}
+use Rattle.plain_run.specs.declared.next.Next.{Next}
+use Rattle.plain_run.specs.Nexts.{Follows, with_loans}
 use Rattle.plain_store.specs.declared.loan.Loan.{Loan}
-use Rattle.plain_store.specs.Loans.{AreLent, Follows, GoesOnAs, Stands, whole, with_loans}
+use Rattle.plain_store.specs.Loans.{AreLent, GoesOnAs, Stands, whole}
 use Rattle.segment_regions.proofs.Pendings.{segments_ask_no_other}
 use Rattle.plain_run.specs.Answers.{KeptAnswers, LetGo, Serves, await_answer, resume_after_by, resume_by, resume_in_by, with_numbers, with_results}
 use Rattle.plain_run.specs.declared.answers.Answer.{Answer}

@@ -1,7 +1,7 @@
 //! A task instance between two of its segments.
 
 ghost use Rattle.std.specs.Prelude.{◌≡◌, IfOk};
-ghost use Rattle.machine_terms.specs.Orders.{after_call, begun, breaks, conclude};
+ghost use Rattle.machine_terms.specs.Orders.{after_call, begun, breaks, conclude, fetch_part};
 ghost use Rattle.machine_terms.specs.Orders.{give_all, make, result_of};
 ghost use Rattle.machine_terms.specs.declared.order.Contents.{Contents as contents};
 ghost use Rattle.machine_terms.specs.declared.order.Ended.TheVariants.{Broke, CameBack};
@@ -11,7 +11,7 @@ ghost use Rattle.plain_store.specs.Loans.{Stands, whole};
 use crate::answers::Answers;
 use crate::settling::settled;
 use machine_terms::{Contents, Ended, Frame, Instance, Made, Resumed, Stack, Yield};
-use plain_store::{Holder, closed, give_parts, is_sound, make_partition, make_root, no_contents};
+use plain_store::{Holder, closed, fetch_part, give_parts, is_sound, make_partition, make_root};
 use plain_values::Sequence;
 use regent_tree::Fault;
 use region_tree::{Needs, Required, RootId};
@@ -76,16 +76,19 @@ pub fn make(
     ensures { IfOk result (λ r. r ≡ make code.now made instance) }
 {
     match made {
-        Made::Root { space, fields } => Ok(Resumed::GoesOn(make_root(
-            alloc, code, space, fields, instance,
-        )?)),
+        Made::Root { space, fields } => {
+            let mut after = instance;
+            make_root(alloc, code, space, fields, &mut after)?;
+            Ok(Resumed::GoesOn(after))
+        }
         Made::Partition {
             region,
             sets,
             disjoint,
         } => {
             if is_sound(alloc, region.points.get(), sets.as_slice(), disjoint)? {
-                let after = make_partition(alloc, region, sets, disjoint, instance)?;
+                let mut after = instance;
+                make_partition(alloc, region, sets, disjoint, &mut after)?;
                 Ok(Resumed::GoesOn(after))
             } else {
                 Ok(breaks(instance))
@@ -94,15 +97,30 @@ pub fn make(
     }
 }
 
+/// The holder with the part that it wants.
+pub fn fetched(
+    alloc: Global,
+    code: &Code,
+    root: RootId,
+    field: u8,
+    holder: Holder,
+) -> Result<Holder, AllocError>
+    ensures { IfOk result (λ h. (c : contents) → Stands c holder → Stands c h
+        × (whole c h ≡ fetch_part code.now root.0 field (whole c holder))) }
+{
+    let mut after = holder;
+    fetch_part(alloc, code, root, field, &mut after)?;
+    Ok(after)
+}
+
 /// The instance whose parts went back.
 pub fn give_all(alloc: Global, holder: Holder) -> Result<Instance, AllocError>
     ensures { IfOk result (λ i. (c : contents) → Stands c holder → i ≡ give_all (whole c holder)) }
 {
     let Holder { instance, loans } = holder;
     let mut after = instance;
-    let kept = mem::replace(&mut after.contents, no_contents(alloc));
     let parts = mem::replace(&mut after.parts, Sequence::new(alloc));
-    after.contents = give_parts(alloc, parts, loans.as_slice(), kept)?;
+    give_parts(alloc, parts, loans.as_slice(), &mut after.contents)?;
     Ok(after)
 }
 
@@ -118,7 +136,7 @@ pub fn after_call(alloc: Global, ended: Ended, instance: Instance) -> Result<Res
             contents,
             text,
         } => {
-            after.contents = closed(alloc, own.as_slice(), contents)?;
+            after.contents = closed(own.as_slice(), contents);
             after.results.push(result_of(value))?;
             after.text.extend(text.as_slice())?;
             Ok(Resumed::GoesOn(after))

@@ -9,16 +9,19 @@ ghost use Rattle.machine_terms.specs.Orders.{enough_segments, run_segments, runs
 ghost use Rattle.machine_terms.specs.Segments.{segment};
 ghost use Rattle.machine_terms.specs.declared.order.Contents.{Contents as contents};
 ghost use Rattle.plain_run.specs.Answers.{LetGo, resume_after_by, resume_by, with_numbers, with_results};
-ghost use Rattle.plain_store.specs.Loans.{Follows, Stands, whole};
+ghost use Rattle.plain_run.specs.Nexts.{Follows};
+ghost use Rattle.plain_store.specs.Loans.{Stands, whole};
 
 use crate::answers::Answers;
 use crate::frames::opening;
 use crate::instances::{
-    after_call, await_child, begun, breaks, broke, conclude, frame_of_roots, give_all, make,
+    after_call, await_child, begun, breaks, broke, conclude, fetched, frame_of_roots, give_all,
+    make,
 };
+use crate::next::{Next, with_loans};
 use crate::outcomes::{first_frame, may_start, outcome, void_outcome};
 use machine_terms::{After, CallOut, Ended, Frame, Instance, Resumed, Yield};
-use plain_store::{Holder, Next, fetch_part, no_contents, requirements_on, with_loans};
+use plain_store::{Holder, no_contents, requirements_on};
 use plain_values::Sequence;
 use regent_tree::Outcome;
 use region_tree::{Part, Required, RootId, are_within};
@@ -226,7 +229,7 @@ fn resume(
             Ok(with_loans(Sequence::new(alloc), resumed))
         }
         Yield::Want { root, field } => {
-            let fetched = fetch_part(alloc, code, root, field, holder)?;
+            let fetched = fetched(alloc, code, root, field, holder)?;
             Ok(Next::GoesOn(fetched))
         }
         Yield::Await(child) => {

@@ -2,18 +2,17 @@
 -- itself, and the list that is kept for the field is empty until the part goes back. So what is kept is
 -- what the roots hold with the lists of all lent fields taken out, and of a lent field the numbers in
 -- the part count, as far as they go back at all.
-use Rattle.std.specs.Prelude.{◌≡◌, ◌<◌, ℕ, List, [], ◌∷◌, ◌++◌, false, length, map}
+use Rattle.std.specs.Prelude.{◌≡◌, ◌<◌, ℕ, List, [], ◌∷◌, ◌++◌, None, Option, Some, false, length, map}
 use Rattle.lane_kernels.specs.declared.numbers.FieldKind.{FieldKind}
 use Rattle.lane_kernels.specs.declared.numbers.Mode.{Mode}
 use Rattle.lane_kernels.specs.declared.numbers.Mode.TheVariants.{Write}
 use Rattle.plain_values.specs.Points.{points}
 use Rattle.machine_terms.specs.declared.order.Contents.{Contents}
+use Rattle.machine_terms.specs.declared.order.Ended.{Ended}
 use Rattle.machine_terms.specs.declared.order.Instance.{Instance}
 use Rattle.machine_terms.specs.declared.order.Resumed.{Resumed}
 use Rattle.machine_terms.specs.declared.order.Resumed.TheVariants as resumed
 use Rattle.plain_store.specs.declared.holder.Holder.{Holder}
-use Rattle.plain_store.specs.declared.holder.Next.{Next}
-use Rattle.plain_store.specs.declared.holder.Next.TheVariants.{GoesOn, IsOver}
 use Rattle.plain_store.specs.declared.loan.Loan.{Loan}
 use Rattle.plain_store.specs.Columns.{IsThere, column_of, piece_on, put_column}
 use Rattle.plain_store.specs.Keys.{is_lent}
@@ -44,11 +43,6 @@ whole contents h = record h.instance { contents = contents }
 
 abbrev pub Stands : Contents → Holder → Type 0
 Stands contents h = AreLent h.loans contents h.instance.contents
-
--- with these loans
-abbrev pub with_loans : List Loan → Resumed → Next
-with_loans ls (resumed.GoesOn i) = GoesOn (record { instance = i; loans = ls })
-with_loans ls (resumed.IsOver e) = IsOver e
 
 -- with a part over all points of its root, for which the field is lent
 abbrev pub lent_out : FieldKind → ℕ → ℕ → Holder → Holder
@@ -84,6 +78,7 @@ pub record GoesOnAs (h : Holder) (r : Resumed) : Type 0 where
   pub instance : r ≡ resumed.GoesOn (whole contents h)
   pub stands : Stands contents h
 
-abbrev pub Follows : Next → Resumed → Type 0
-Follows (GoesOn h) r = GoesOnAs h r
-Follows (IsOver e) r = r ≡ resumed.IsOver e
+-- a holder that goes on unless its instance is over
+abbrev pub Follows : Option Ended → Holder → Resumed → Type 0
+Follows None h r = GoesOnAs h r
+Follows (Some e) h r = r ≡ resumed.IsOver e

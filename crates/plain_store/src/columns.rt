@@ -39,30 +39,26 @@ fn column_at(image: &RootImage, field: u8) -> &[i64]
     }
 }
 
-/// Puts a list of numbers in the place of a field's, and gives these. A root that isn't there, or is
-/// there twice, and a field that it lacks count as a want of memory.
+/// Puts a list of numbers in the place of a field's, and returns these. A root that isn't there, or is
+/// there twice, and a field that it lacks count as out of memory.
 pub fn swap_column(
     alloc: Global,
-    contents: Contents,
+    contents: &mut Contents,
     root: RootId,
     field: u8,
     column: Sequence<i64>,
-) -> Result<(Contents, Sequence<i64>), AllocError>
-    ensures there { IfOk result (λ r. IsThere contents root.0 field) }
-    ensures contents { IfOk result (λ r. r.0 ≡ put_column root.0 field column contents) }
-    ensures column { IfOk result (λ r. r.1 ≡ column_of contents root.0 field) }
+) -> Result<Sequence<i64>, AllocError>
+    ensures there { OnOk result (IsThere contents.old root.0 field) }
+    ensures contents { OnOk result (contents.new ≡ put_column root.0 field column contents.old) }
+    ensures column { IfOk result (λ old. old ≡ column_of contents.old root.0 field) }
 {
     let Some(place) = place_of(contents.roots.as_slice(), root) else {
         return Err(AllocError);
     };
-    let Contents { made, roots } = contents;
-    let mut roots = roots.into_vec();
+    let mut roots = mem::replace(&mut contents.roots, Sequence::new(alloc)).into_vec();
     let old = swap_in(alloc, &mut roots[place].image, field, column)?;
-    let contents = Contents {
-        made,
-        roots: Sequence::from_vec(roots),
-    };
-    Ok((contents, old))
+    contents.roots = Sequence::from_vec(roots);
+    Ok(old)
 }
 
 /// The place of the only root with a number.

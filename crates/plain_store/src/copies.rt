@@ -1,6 +1,6 @@
 //! Parts that are copied or lent out of the roots.
 
-ghost use Rattle.std.specs.Prelude.{◌≡◌, ◌↔◌, [], ◌∷◌, IsTrue, IfOk, get_or, length, map, pos};
+ghost use Rattle.std.specs.Prelude.{◌≡◌, ◌↔◌, [], ◌∷◌, IsTrue, IfOk, OnOk, get_or, length, map, pos};
 ghost use Rattle.lane_kernels.specs.declared.numbers.Mode.TheVariants.{Write};
 ghost use Rattle.plain_values.specs.Points.{points};
 ghost use Rattle.machine_terms.specs.Orders.{fetch_part};
@@ -9,7 +9,7 @@ ghost use Rattle.plain_store.specs.Columns.{IsThere, column_of, piece_on};
 ghost use Rattle.plain_store.specs.Loans.{Stands, copied_out, lent_out, whole};
 
 use crate::columns::{column_of, swap_column};
-use crate::contents::{kind_of, no_contents, number_in};
+use crate::contents::{kind_of, number_in};
 use crate::holder::Holder;
 use crate::loan::{Loan, is_lent};
 use lane_kernels::{FieldKind, Mode};
@@ -17,30 +17,28 @@ use plain_values::Sequence;
 use point_sets::PointSet;
 use region_tree::{Part, Piece, RootId, part_of};
 use std::alloc::{AllocError, Global};
-use std::mem;
 use task_code::Code;
 
-/// The holder with the part that it wants: a part of all points of its root for writing is lent, and any
-/// other copied. A part of a field that is lent isn't wanted again, and counts as a want of memory.
+/// Gives a holder the part that it wants: a part of all points of its root for writing is lent, and any
+/// other is copied. A field that is lent already counts as out of memory.
 pub fn fetch_part(
     alloc: Global,
     code: &Code,
     root: RootId,
     field: u8,
-    holder: Holder,
-) -> Result<Holder, AllocError>
-    ensures { IfOk result (λ h. (c : contents) → Stands c holder
-        → Stands c h × (whole c h ≡ fetch_part code.now root.0 field (whole c holder))) }
+    holder: &mut Holder,
+) -> Result<(), AllocError>
+    ensures { OnOk result ((c : contents) → Stands c holder.old → Stands c holder.new
+        × (whole c holder.new ≡ fetch_part code.now root.0 field (whole c holder.old))) }
 {
     if is_lent(holder.loans.as_slice(), root, field) {
         return Err(AllocError);
     }
     let kind = kind_of(code, &holder.instance.contents, root, field);
     let found = part_of(alloc, holder.instance.needs.as_slice(), root, field)?;
-    let made = holder.instance.contents.made;
     let column = column_of(&holder.instance.contents, root, field);
-    if root.0 < made && is_whole(found.as_slice(), column) {
-        lend(alloc, kind, found[0].0.copy()?, root, field, holder)
+    if root.0 < holder.instance.contents.made && is_whole(found.as_slice(), column) {
+        lend(alloc, kind, &found[0].0, root, field, holder)
     } else {
         copy_out(alloc, kind, root, field, found, holder)
     }
@@ -74,43 +72,40 @@ pub fn is_all(set: &PointSet, size: usize) -> bool
 fn lend(
     alloc: Global,
     kind: FieldKind,
-    all: PointSet,
+    all: &PointSet,
     root: RootId,
     field: u8,
-    holder: Holder,
-) -> Result<Holder, AllocError>
-    requires { all ≡ points (length (column_of holder.instance.contents root.0 field)) }
-    ensures there { IfOk result (λ h. IsThere holder.instance.contents root.0 field) }
-    ensures holder { IfOk result (λ h. h ≡ lent_out kind root.0 field holder) }
+    holder: &mut Holder,
+) -> Result<(), AllocError>
+    requires { all.now ≡ points (length (column_of holder.now.instance.contents root.0 field)) }
+    ensures there { OnOk result (IsThere holder.old.instance.contents root.0 field) }
+    ensures holder { OnOk result (holder.new ≡ lent_out kind root.0 field holder.old) }
 {
-    let mut after = holder;
-    let kept = mem::replace(&mut after.instance.contents, no_contents(alloc));
-    let (kept, values) = swap_column(alloc, kept, root, field, Sequence::new(alloc))?;
-    after.instance.contents = kept;
+    let kept = &mut holder.instance.contents;
+    let values = swap_column(alloc, kept, root, field, Sequence::new(alloc))?;
     let count = values.len();
     let pieces = one_piece(alloc, all, values)?;
-    after.instance.parts.push(Part {
+    holder.instance.parts.push(Part {
         root,
         field,
         kind,
         pieces,
     })?;
-    after.loans.push(Loan { root, field, count })?;
-    Ok(after)
+    holder.loans.push(Loan { root, field, count })
 }
 
 /// One piece for writing.
 fn one_piece(
     alloc: Global,
-    points: PointSet,
+    points: &PointSet,
     values: Sequence<i64>,
 ) -> Result<Sequence<Piece>, AllocError>
-    requires { length points ≡ length values }
-    ensures { IfOk result (λ ps. ps ≡ record { points = points; mode = Write; values = values } ∷ []) }
+    requires { length points.now ≡ length values }
+    ensures { IfOk result (λ ps. ps ≡ record { points = points.now; mode = Write; values = values } ∷ []) }
 {
     let mut pieces = Sequence::new(alloc);
     pieces.push(Piece {
-        points,
+        points: points.copy()?,
         mode: Mode::Write,
         values,
     })?;
@@ -124,20 +119,18 @@ fn copy_out(
     root: RootId,
     field: u8,
     found: Vec<(PointSet, Mode)>,
-    holder: Holder,
-) -> Result<Holder, AllocError>
-    ensures { IfOk result (λ h. h ≡ copied_out kind root.0 field found.items holder) }
+    holder: &mut Holder,
+) -> Result<(), AllocError>
+    ensures { OnOk result (holder.new ≡ copied_out kind root.0 field found.items holder.old) }
 {
-    let mut after = holder;
-    let column = column_of(&after.instance.contents, root, field);
+    let column = column_of(&holder.instance.contents, root, field);
     let pieces = copied_pieces(alloc, kind, column, found)?;
-    after.instance.parts.push(Part {
+    holder.instance.parts.push(Part {
         root,
         field,
         kind,
         pieces,
-    })?;
-    Ok(after)
+    })
 }
 
 fn copied_pieces(

@@ -14,7 +14,7 @@ mod roots;
 
 pub use contents::no_contents;
 pub use copies::fetch_part;
-pub use holder::{Holder, Next, with_loans};
+pub use holder::Holder;
 pub use loan::Loan;
 pub use making::{closed, is_sound};
 pub use opening::needs_on;

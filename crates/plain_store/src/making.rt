@@ -53,20 +53,16 @@ fn are_apart(alloc: Global, sets: &[PointSet]) -> Result<bool, AllocError>
 }
 
 /// The contents without these roots.
-pub fn closed(alloc: Global, ids: &[RootId], contents: Contents) -> Result<Contents, AllocError>
-    ensures { IfOk result (λ c. c ≡ closed ids.now contents) }
+pub fn closed(ids: &[RootId], contents: Contents) -> Contents
+    ensures { result ≡ closed ids.now contents }
 {
     let Contents { made, roots } = contents;
-    let mut kept = Vec::new(alloc);
-    for held in roots.into_vec() {
-        if !is_among(ids, &held) {
-            kept.push(held)?;
-        }
-    }
-    Ok(Contents {
+    let mut kept = roots.into_vec();
+    kept.retain(|held| !is_among(ids, held));
+    Contents {
         made,
         roots: Sequence::from_vec(kept),
-    })
+    }
 }
 
 fn is_among(ids: &[RootId], held: &Root) -> bool

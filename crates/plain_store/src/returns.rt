@@ -1,6 +1,6 @@
 //! Parts that go back into the roots.
 
-ghost use Rattle.std.specs.Prelude.{◌≡◌, ◌≤◌, [], ◌∷◌, ℤ, List, drop, length, slice_set, IfOk, IfSome};
+ghost use Rattle.std.specs.Prelude.{◌≡◌, ◌≤◌, [], ◌∷◌, ℤ, List, drop, length, slice_set, IfOk, IfSome, OnOk};
 ghost use Rattle.lane_kernels.specs.declared.numbers.Mode.TheVariants.{Write};
 ghost use Rattle.plain_values.specs.Points.{points};
 ghost use Rattle.machine_terms.specs.Copies.{give_parts, give_pieces};
@@ -18,66 +18,58 @@ use plain_values::Sequence;
 use region_tree::{Part, Piece};
 use std::alloc::{AllocError, Global};
 
-/// The contents where these parts went back: numbers that were written are kept, and those of a
-/// reduction are folded in. The loans are those of the parts, in their order; where they aren't, that
-/// counts as a want of memory.
+/// Gives these parts back to the contents: numbers that were written are kept, and those of a reduction
+/// are folded in. The loans are those of the parts, in their order; if they aren't, that counts as out
+/// of memory.
 #[tactic(auto, using(crate::proofs::Returning::give_next, crate::proofs::Returning::none_left))]
 pub fn give_parts(
     alloc: Global,
     parts: Sequence<Part>,
     loans: &[Loan],
-    kept: Contents,
-) -> Result<Contents, AllocError>
-    ensures { IfOk result (λ k. (c : contents) → AreLent loans.now c kept → k ≡ give_parts parts c) }
+    kept: &mut Contents,
+) -> Result<(), AllocError>
+    ensures { OnOk result ((c : contents) → AreLent loans.now c kept.old → kept.new ≡ give_parts parts c) }
 {
-    let mut given = kept;
     let mut next = 0;
     for part in parts.into_vec() {
-        let (more, behind) = give_part(alloc, part, loans, next, given)?;
-        given = more;
-        next = behind;
+        next = give_part(alloc, part, loans, next, kept)?;
     }
     if next < loans.len() {
         return Err(AllocError);
     }
-    Ok(given)
+    Ok(())
 }
 
-/// The contents where a part went back, and the place of the next loan.
+/// Gives a part back, and returns the place of the next loan.
 fn give_part(
     alloc: Global,
     part: Part,
     loans: &[Loan],
     next: usize,
-    kept: Contents,
-) -> Result<(Contents, usize), AllocError>
+    kept: &mut Contents,
+) -> Result<usize, AllocError>
     requires { next ≤ length loans.now }
-    ensures next { IfOk result (λ r. r.1 ≤ length loans.now) }
-    ensures contents { IfOk result (λ r. (c : contents) → AreLent (drop next loans.now) c kept
-        → AreLent (drop r.1 loans.now)
-        (give_pieces part.kind part.root.0 part.field part.pieces c) r.0) }
+    ensures next { IfOk result (λ behind. behind ≤ length loans.now) }
+    ensures contents { IfOk result (λ behind. (c : contents) → AreLent (drop next loans.now) c kept.old
+        → AreLent (drop behind loans.now)
+        (give_pieces part.kind part.root.0 part.field part.pieces c) kept.new) }
 {
     if next < loans.len() && loans[next].is_of(part.root, part.field) {
-        let given = give_lent(alloc, part, loans[next].count, kept)?;
-        Ok((given, next + 1))
+        give_lent(alloc, part, loans[next].count, kept)?;
+        Ok(next + 1)
     } else if is_lent(&loans[next..], part.root, part.field) {
         Err(AllocError)
     } else {
-        let given = give_copied(alloc, part, kept)?;
-        Ok((given, next))
+        give_copied(alloc, &part, kept)?;
+        Ok(next)
     }
 }
 
-/// The contents where a lent field went back, of so many numbers.
-fn give_lent(
-    alloc: Global,
-    part: Part,
-    count: usize,
-    kept: Contents,
-) -> Result<Contents, AllocError>
-    ensures { IfOk result (λ k. (zs : List ℤ) × (length zs ≡ count)
+/// Gives a lent field back, of so many numbers.
+fn give_lent(alloc: Global, part: Part, count: usize, kept: &mut Contents) -> Result<(), AllocError>
+    ensures { OnOk result ((zs : List ℤ) × (length zs ≡ count)
         × (part.pieces ≡ record { points = points count; mode = Write; values = zs } ∷ [])
-        × (k ≡ put_column part.root.0 part.field zs kept)) }
+        × (kept.new ≡ put_column part.root.0 part.field zs kept.old)) }
 {
     let Part {
         root,
@@ -92,8 +84,8 @@ fn give_lent(
         return Err(AllocError);
     }
     let Piece { values, .. } = piece;
-    let (given, _) = swap_column(alloc, kept, root, field, values)?;
-    Ok(given)
+    swap_column(alloc, kept, root, field, values)?;
+    Ok(())
 }
 
 /// The piece, if there is one alone.
@@ -105,18 +97,19 @@ fn only_piece(pieces: Sequence<Piece>) -> Option<Piece>
     if pieces.is_empty() { last } else { None }
 }
 
-/// The contents where the pieces of a part went back that were copied.
-fn give_copied(alloc: Global, part: Part, kept: Contents) -> Result<Contents, AllocError>
-    ensures there { IfOk result (λ k. IsThere kept part.root.0 part.field) }
-    ensures contents { IfOk result (λ k. k ≡ put_column part.root.0 part.field
-        (pieces_given part.kind part.pieces (column_of kept part.root.0 part.field)) kept) }
+/// Gives back the pieces of a part that were copied.
+fn give_copied(alloc: Global, part: &Part, kept: &mut Contents) -> Result<(), AllocError>
+    ensures there { OnOk result (IsThere kept.old part.now.root.0 part.now.field) }
+    ensures contents { OnOk result (kept.new ≡ put_column part.now.root.0 part.now.field
+        (pieces_given part.now.kind part.now.pieces
+        (column_of kept.old part.now.root.0 part.now.field)) kept.old) }
 {
     let (root, field) = (part.root, part.field);
-    let (rest, column) = swap_column(alloc, kept, root, field, Sequence::new(alloc))?;
+    let column = swap_column(alloc, kept, root, field, Sequence::new(alloc))?;
     let mut numbers = column.into_vec();
     give_pieces(part.kind, part.pieces.as_slice(), numbers.as_mut_slice());
-    let (given, _) = swap_column(alloc, rest, root, field, Sequence::from_vec(numbers))?;
-    Ok(given)
+    swap_column(alloc, kept, root, field, Sequence::from_vec(numbers))?;
+    Ok(())
 }
 
 fn give_pieces(kind: FieldKind, pieces: &[Piece], column: &mut [i64])

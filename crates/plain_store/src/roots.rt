@@ -103,48 +103,46 @@ fn enter_root(frame: &mut Frame, region: RegionValue, fields: usize) -> Result<(
     frame.stack.push(Value::Region(region))
 }
 
-/// An instance with a new root of a field space.
+/// Makes a root of a field space for an instance.
 pub fn make_root(
     alloc: Global,
     code: &Code,
     size: Ispace,
     space: u32,
-    instance: Instance,
-) -> Result<Instance, AllocError>
-    ensures { IfOk result (λ i. i ≡ make_root code.now size space instance) }
+    instance: &mut Instance,
+) -> Result<(), AllocError>
+    ensures { OnOk result (instance.new ≡ make_root code.now size space instance.old) }
 {
     let points = Shared::new(alloc, size.points(alloc)?)?;
     let image = new_root(alloc, code, size.volume(), space)?;
     let fields = fields_needed(code, size.volume(), space);
-    with_new_root(points, image, fields, instance)
+    add_new_root(points, image, fields, instance)
 }
 
-/// An instance with a root of these points, of which the first fields are needed.
-fn with_new_root(
+/// Adds a root of these points to an instance, of which the first fields are needed.
+fn add_new_root(
     points: Shared<PointSet>,
     image: RootImage,
     fields: usize,
-    instance: Instance,
-) -> Result<Instance, AllocError>
-    ensures { IfOk result (λ i. i ≡ record instance {
-      frame = record instance.frame {
-        stack = Region (region_with instance.contents.made points) ∷ instance.frame.stack;
+    instance: &mut Instance,
+) -> Result<(), AllocError>
+    ensures { OnOk result (instance.new ≡ record instance.old {
+      frame = record instance.old.frame {
+        stack = Region (region_with instance.old.contents.made points) ∷ instance.old.frame.stack;
         needs = record {
-          items = instance.frame.needs.items
-              ++ root_needs instance.contents.made fields;
+          items = instance.old.frame.needs.items
+              ++ root_needs instance.old.contents.made fields;
         };
-        own = instance.frame.own ++ record { 0 = instance.contents.made } ∷ [];
+        own = instance.old.frame.own ++ record { 0 = instance.old.contents.made } ∷ [];
       };
-      contents = with_root image instance.contents;
-      needs = instance.needs ++ root_requirements instance.contents.made points fields;
+      contents = with_root image instance.old.contents;
+      needs = instance.old.needs ++ root_requirements instance.old.contents.made points fields;
     }) }
 {
-    let mut after = instance;
-    let root = RootId(after.contents.made);
-    add_root_requirements(&mut after.needs, root, &points, fields)?;
-    add_root(&mut after.contents, image)?;
-    enter_root(&mut after.frame, region_with(root, points), fields)?;
-    Ok(after)
+    let root = RootId(instance.contents.made);
+    add_root_requirements(&mut instance.needs, root, &points, fields)?;
+    add_root(&mut instance.contents, image)?;
+    enter_root(&mut instance.frame, region_with(root, points), fields)
 }
 
 /// A region of a root, which has no node in a run in order.
@@ -158,25 +156,23 @@ fn region_with(root: RootId, points: Shared<PointSet>) -> RegionValue
     }
 }
 
-/// An instance with a new partition of a region.
+/// Makes a partition of a region for an instance.
 pub fn make_partition(
     alloc: Global,
     region: RegionValue,
     sets: Sequence<PointSet>,
     disjoint: bool,
-    instance: Instance,
-) -> Result<Instance, AllocError>
-    ensures { IfOk result (λ i. i ≡ make_partition region sets disjoint instance) }
+    instance: &mut Instance,
+) -> Result<(), AllocError>
+    ensures { OnOk result (instance.new ≡ make_partition region sets disjoint instance.old) }
 {
-    let mut after = instance;
     let root = region.root;
     let children = Shared::new(alloc, regions_with(alloc, root, sets)?)?;
-    after.frame.stack.push(Value::Partition(PartitionValue {
+    instance.frame.stack.push(Value::Partition(PartitionValue {
         root,
         disjoint,
         children,
-    }))?;
-    Ok(after)
+    }))
 }
 
 fn regions_with(

@@ -7,9 +7,10 @@ use Rattle.machine_terms.specs.Orders.{call_within, runs}
 use Rattle.machine_terms.specs.Orders.{before_of}
 use Rattle.plain_run.specs.Answers.{KeptAnswers, LetGo, resume_after_by, with_numbers}
 use Rattle.machine_terms.specs.Segments.{segment}
-use Rattle.plain_store.specs.declared.holder.Next.{Next}
+use Rattle.plain_run.specs.declared.next.Next.{Next}
+use Rattle.plain_run.specs.Nexts.{Follows, with_loans}
 use Rattle.plain_store.specs.declared.loan.Loan.{Loan}
-use Rattle.plain_store.specs.Loans.{AreLent, Follows, whole, with_loans}
+use Rattle.plain_store.specs.Loans.{AreLent, whole}
 use Rattle.plain_run.proofs.Calling.{call_begun, call_next, level_below, too_many}
 use Rattle.region_tree.specs.declared.piece.Part.{Part}
 use Rattle.plain_run.proofs.Resuming.{calls_follow, holder_first, holder_last, holder_next, make_follows, segment_follows}

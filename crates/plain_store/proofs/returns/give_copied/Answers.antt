@@ -6,12 +6,12 @@ use Rattle.plain_store.proofs.returns.give_copied.Goals as goal
 
 pub returns-clause-contents : goal.returns-clause-contents
 returns-clause-contents c =
-    let q = c.args.part in
+    let q = c.args.part.now in
     let numbers = c.into_vec-numbers.result in
     let column = c.give_pieces.new.column in
-    let all : List ℤ = pieces_given q.kind q.pieces (column_of c.args.kept q.root.0 q.field) in
+    let all : List ℤ = pieces_given q.kind q.pieces (column_of c.args.kept.now q.root.0 q.field) in
     let is : column ≡ all = search (rules) in
     let count : length column ≡ numbers.len = search (rules) in
-    put_again q.root.0 q.field c.args.kept c.in_ok-rest.rest c.in_ok-given.given _ all _
-    c.in_ok-rest.ensures.contents c.in_ok-given.ensures.contents
+    put_again q.root.0 q.field c.args.kept.now c.swap_column.new.contents c.swap_column-2.new.contents _ all _
+    c.in_ok-column.ensures.contents c.in_ok-swap_column.ensures.contents
     (c.from_vec.ensures ∙ with_items_is numbers column count ∙ is)

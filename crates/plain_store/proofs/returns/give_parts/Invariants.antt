@@ -7,4 +7,4 @@ use Rattle.plain_store.proofs.returns.give_parts.Given as goal
 abbrev pub invariant-loop-part : goal.invariant-loop-part
 invariant-loop-part l =
     (l.next ≤ length l.loans)
-    × ((c : Contents) → AreLent l.loans c l.fn.kept → AreLent (drop l.next l.loans) (give_parts l.yielded c) l.given)
+    × ((c : Contents) → AreLent l.loans c l.initial.kept → AreLent (drop l.next l.loans) (give_parts l.yielded c) l.kept)
