@@ -4,8 +4,8 @@ use code_gen::compile;
 use plain_values::{Sequence, Shared};
 use regent_reader::read;
 use std::alloc::{AllocError, Global};
-use task_code::Job;
-use type_check::check;
+use task_code::{Code, Job};
+use type_check::{Accepted, check};
 
 /// How many turns each task instance has.
 const TURNS: u64 = 1_000;
@@ -18,16 +18,21 @@ pub struct Row {
     text: String,
 }
 
+/// The numbers of a line.
+fn numbers_of(alloc: Global, words: &str) -> Result<Vec<i64>, AllocError> {
+    let mut numbers = Vec::new(alloc);
+    for word in words.split_whitespace() {
+        numbers.push(word.parse::<i64>().unwrap_or(0))?;
+    }
+    Ok(numbers)
+}
+
 impl Row {
     /// A program without lines that takes these numbers.
     pub fn new(alloc: Global, name: &str, numbers: &str) -> Result<Row, AllocError> {
-        let mut inputs = Vec::new(alloc);
-        for word in numbers.split_whitespace() {
-            inputs.push(word.parse::<i64>().unwrap_or(0))?;
-        }
         Ok(Row {
             name: String::from_str(alloc, name)?,
-            inputs,
+            inputs: numbers_of(alloc, numbers)?,
             text: String::new(alloc),
         })
     }
@@ -43,19 +48,32 @@ impl Row {
         self.text.push('\n')
     }
 
-    /// Its job; none where the text is refused.
-    pub fn job(&self, alloc: Global) -> Result<Option<Job>, AllocError> {
-        let Ok(program) = read(alloc, self.text.as_bytes()) else {
-            return Ok(None);
-        };
-        let Ok(accepted) = check(alloc, program) else {
-            return Ok(None);
-        };
-        let code = compile(alloc, &accepted)?;
+    /// The program; none where the text is refused.
+    fn accepted(&self, alloc: Global) -> Option<Accepted> {
+        match read(alloc, self.text.as_bytes()) {
+            Ok(program) => check(alloc, program).ok(),
+            Err(_) => None,
+        }
+    }
+
+    /// A job of this code.
+    fn job_of(
+        &self,
+        alloc: Global,
+        code: Result<Code, AllocError>,
+    ) -> Result<Option<Job>, AllocError> {
         Ok(Some(Job {
-            code: Shared::new(alloc, code)?,
+            code: Shared::new(alloc, code?)?,
             inputs: Sequence::from_slice(alloc, self.inputs.as_slice())?,
             turns: TURNS,
         }))
+    }
+
+    /// Its job; none where the text is refused.
+    pub fn job(&self, alloc: Global) -> Result<Option<Job>, AllocError> {
+        match self.accepted(alloc) {
+            Some(accepted) => self.job_of(alloc, compile(alloc, &accepted)),
+            None => Ok(None),
+        }
     }
 }

@@ -1,146 +1,176 @@
-//! A board of a task that does nothing, and one of a void job: claims, copies, and claims that are taken back.
+//! Calls on a board of a task that does nothing, and on one of a void job.
 
+use crate::jobs::{Main, job};
+use crate::looks::{is_broken, is_of_main, main_claim};
 use board_terms::Claim;
-use plain_values::{Sequence, Shared};
-use regent_tree::Ending;
 use region_tree::OpNumber;
-use run_journal::{Entry, StepKind};
+use run_journal::StepKind;
 use std::alloc::{AllocError, Global};
 use std::test::Fail;
-use task_code::{Code, Instr, Job, Line, TaskCode};
+use task_code::Job;
 use task_core::{Board, Copied};
 
-/// A job whose main does nothing, with so many parameters and no input.
-fn job_of(alloc: Global, params: u8) -> Result<Job, AllocError> {
-    let mut body = Sequence::new(alloc);
-    body.push(Line {
-        instr: Instr::Return,
-        line: 1,
-    })?;
-    let mut tasks = Sequence::new(alloc);
-    tasks.push(TaskCode {
-        params,
-        result: false,
-        needs: Sequence::new(alloc),
-        slots: 4,
-        body,
-    })?;
-    let code = Code {
-        tasks,
-        spaces: Sequence::new(alloc),
-        start: 0,
-    };
-    Ok(Job {
-        code: Shared::new(alloc, code)?,
-        inputs: Sequence::new(alloc),
-        turns: 5,
-    })
+/// A call, and what comes of it.
+#[derive(Clone, Copy)]
+enum Call {
+    /// A seat claims main, under this turn.
+    Claims(u16, u64),
+    /// A seat finds nothing to claim.
+    ClaimsNothing(u16),
+    /// The operation of this number can't be claimed.
+    IsNotThere(u64),
+    /// So many operations are in progress: none, or main.
+    InProgress(usize),
+    /// A copy starts the segment of a seat's claim under this turn.
+    Starts(u16, u64),
+    /// A copy finds that this claim isn't being filled.
+    IsGone(u16, u64),
+    /// Such a claim is taken back, or there is nothing to take back.
+    TakesBack(u16, u64, bool),
+    /// There is no result.
+    GoesOn,
+    /// The board is broken.
+    IsBroken,
+    /// The board is of a job with this main.
+    IsOf(Main),
 }
 
-fn entry(kind: StepKind, seat: u16) -> Entry {
-    Entry {
-        kind,
-        op: OpNumber(0),
-        seat,
+fn claims(
+    claimed: Result<Option<Claim>, AllocError>,
+    claim: Option<Claim>,
+) -> Result<bool, AllocError> {
+    Ok(claimed? == claim)
+}
+
+/// Whether so many operations are in progress, main before all others.
+fn has_begun(
+    in_progress: Result<Vec<OpNumber>, AllocError>,
+    count: usize,
+) -> Result<bool, AllocError> {
+    let begun = in_progress?;
+    Ok(begun.len() == count && begun.iter().all(|op| *op == OpNumber(0)))
+}
+
+fn starts(copied: Result<Copied, AllocError>) -> Result<bool, AllocError> {
+    Ok(matches!(copied?, Copied::Start(_)))
+}
+
+fn is_gone(copied: Result<Copied, AllocError>) -> Result<bool, AllocError> {
+    Ok(matches!(copied?, Copied::Gone))
+}
+
+fn is_of(board: &Board, job: Result<Job, AllocError>) -> Result<bool, AllocError> {
+    Ok(board.job().same(&job?))
+}
+
+/// Makes a call, and returns whether it came out so.
+fn comes_out(alloc: Global, board: &mut Board, call: Call) -> Result<bool, AllocError> {
+    match call {
+        Call::Claims(seat, turn) => claims(board.claim(seat), Some(main_claim(seat, turn))),
+        Call::ClaimsNothing(seat) => claims(board.claim(seat), None),
+        Call::IsNotThere(number) => claims(board.claim_at(OpNumber(number), 0), None),
+        Call::InProgress(count) => has_begun(board.in_progress(), count),
+        Call::Starts(seat, turn) => starts(board.copy(main_claim(seat, turn))),
+        Call::IsGone(seat, turn) => is_gone(board.copy(main_claim(seat, turn))),
+        Call::TakesBack(seat, turn, taken) => {
+            Ok(board.take_back(main_claim(seat, turn)) == taken)
+        }
+        Call::GoesOn => Ok(board.result().is_none()),
+        Call::IsBroken => Ok(is_broken(board)),
+        Call::IsOf(main) => is_of(board, job(alloc, main)),
     }
 }
 
-/// The first claim of main by seat 0.
-fn first_claim() -> Claim {
-    Claim {
-        op: OpNumber(0),
-        seat: 0,
-        turn: 0,
+/// The place of the first call that doesn't come out.
+fn first_wrong(
+    alloc: Global,
+    board: &mut Board,
+    calls: &[Call],
+) -> Result<Option<usize>, AllocError> {
+    for (place, call) in calls.iter().enumerate() {
+        if !comes_out(alloc, board, *call)? {
+            return Ok(Some(place));
+        }
     }
+    Ok(None)
 }
 
-/// Whether main of a new board is claimed once, and no other operation.
-fn is_claimed_once(board: &mut Board) -> Result<bool, AllocError> {
-    let unknown = board.claim_at(OpNumber(7), 0)?;
-    let idle = board.in_progress()?.is_empty();
-    let first = board.claim(0)?;
-    let second = board.claim(1)?;
-    let main = board.in_progress()?.as_slice() == [OpNumber(0)].as_slice();
-    Ok(unknown.is_none() && idle && first == Some(first_claim()) && second.is_none() && main)
+/// The place of the first call that doesn't come out, and whether the journal has these steps of a seat then.
+fn went(
+    alloc: Global,
+    board: &mut Board,
+    calls: &[Call],
+    seat: u16,
+    steps: &[StepKind],
+) -> Result<(Option<usize>, bool), AllocError> {
+    let wrong = first_wrong(alloc, board, calls)?;
+    Ok((wrong, is_of_main(board.journal(), seat, steps)))
 }
 
-/// Whether a copy starts the segment of this claim.
-fn starts(board: &mut Board, claim: Claim) -> Result<bool, AllocError> {
-    Ok(matches!(board.copy(claim)?, Copied::Start(_)))
-}
-
-/// Whether a copy finds that this claim isn't being filled.
-fn is_gone(board: &mut Board, claim: Claim) -> Result<bool, AllocError> {
-    Ok(matches!(board.copy(claim)?, Copied::Gone))
+/// The same on a new board of a job with this main.
+fn went_on_new(
+    alloc: Global,
+    main: Main,
+    calls: &[Call],
+    seat: u16,
+    steps: &[StepKind],
+) -> Result<(Option<usize>, bool), AllocError> {
+    let mut board = Board::open(alloc, job(alloc, main)?)?;
+    went(alloc, &mut board, calls, seat, steps)
 }
 
 #[test]
 fn main_is_claimed_once(rt: HostRuntime) -> Result<(), Fail> {
-    let mut board = Board::open(rt.alloc(), job_of(rt.alloc(), 0)?)?;
-    assert!(rt; is_claimed_once(&mut board)?, "claims");
-    assert!(rt; starts(&mut board, first_claim())?, "a copy");
-    assert!(rt; is_gone(&mut board, first_claim())?, "a second copy");
-    assert!(rt; board.result().is_none());
-    let steps = [entry(StepKind::Claim, 0), entry(StepKind::Copy, 0)];
-    assert_eq!(rt; board.journal(), steps.as_slice());
+    let calls = [
+        Call::IsNotThere(7),
+        Call::InProgress(0),
+        Call::Claims(0, 0),
+        Call::ClaimsNothing(1),
+        Call::InProgress(1),
+        Call::Starts(0, 0),
+        Call::IsGone(0, 0),
+        Call::GoesOn,
+    ];
+    let steps = [StepKind::Claim, StepKind::Copy];
+    let went = went_on_new(rt.alloc(), Main::Calls(0), &calls, 0, &steps)?;
+    assert_eq!(rt; went, (None, true));
     Ok(())
 }
 
-/// Whether a claim of main can be taken back once.
-fn is_taken_back_once(board: &mut Board) -> Result<bool, AllocError> {
-    let Some(first) = board.claim(3)? else {
-        return Ok(false);
-    };
-    Ok(board.take_back(first) && !board.take_back(first))
-}
-
-/// Whether main is claimed anew by seat 3, under the turn behind that of the first claim, which stays gone; and the claim can
-/// be taken back when its segment has started.
-fn is_claimed_anew(board: &mut Board) -> Result<bool, AllocError> {
-    let Some(second) = board.claim(3)? else {
-        return Ok(false);
-    };
-    let first = Claim { turn: 0, ..second };
-    let gone = is_gone(board, first)? && !board.take_back(first);
-    let started = starts(board, second)?;
-    Ok(second.turn == 1 && gone && started && board.take_back(second))
-}
-
+/// A claim is taken back once, and stays gone when main is claimed anew. That claim can be taken back when its segment has
+/// started.
 #[test]
 fn claims_are_taken_back(rt: HostRuntime) -> Result<(), Fail> {
-    let mut board = Board::open(rt.alloc(), job_of(rt.alloc(), 0)?)?;
-    assert!(rt; is_taken_back_once(&mut board)?, "the first claim");
-    assert!(rt; is_claimed_anew(&mut board)?, "the second claim");
-    let steps = [
-        entry(StepKind::Claim, 3),
-        entry(StepKind::Back, 3),
-        entry(StepKind::Claim, 3),
-        entry(StepKind::Copy, 3),
-        entry(StepKind::Back, 3),
+    let calls = [
+        Call::Claims(3, 0),
+        Call::TakesBack(3, 0, true),
+        Call::TakesBack(3, 0, false),
+        Call::Claims(3, 1),
+        Call::IsGone(3, 0),
+        Call::TakesBack(3, 0, false),
+        Call::Starts(3, 1),
+        Call::TakesBack(3, 1, true),
     ];
-    assert_eq!(rt; board.journal(), steps.as_slice());
+    let steps = [
+        StepKind::Claim,
+        StepKind::Back,
+        StepKind::Claim,
+        StepKind::Copy,
+        StepKind::Back,
+    ];
+    let went = went_on_new(rt.alloc(), Main::Calls(0), &calls, 3, &steps)?;
+    assert_eq!(rt; went, (None, true));
     Ok(())
-}
-
-/// Whether nothing can be claimed on a board, which has come to nothing, and is broken.
-fn is_broken(board: &mut Board) -> Result<bool, AllocError> {
-    let claimed = board.claim(0)?;
-    let broken = match board.result() {
-        Some(outcome) => matches!(outcome.ending, Ending::Broken) && outcome.text.is_empty(),
-        None => false,
-    };
-    Ok(claimed.is_none() && broken)
-}
-
-/// Whether a board is of this job.
-fn is_of(board: &Board, job: &Job) -> bool {
-    board.job().same(job)
 }
 
 #[test]
 fn a_void_job_is_broken(rt: HostRuntime) -> Result<(), Fail> {
-    let mut board = Board::open(rt.alloc(), job_of(rt.alloc(), 1)?)?;
-    assert!(rt; is_broken(&mut board)?);
-    assert!(rt; is_of(&board, &job_of(rt.alloc(), 1)?));
+    let calls = [
+        Call::ClaimsNothing(0),
+        Call::IsBroken,
+        Call::IsOf(Main::Void),
+    ];
+    let went = went_on_new(rt.alloc(), Main::Void, &calls, 0, &[])?;
+    assert_eq!(rt; went, (None, true));
     Ok(())
 }

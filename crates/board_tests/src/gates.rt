@@ -5,7 +5,7 @@ ghost use Rattle.std.specs.Prelude.{◌≡◌, ◌≢◌};
 
 use machine_terms::Ran;
 use region_tree::OpNumber;
-use std::alloc::AllocError;
+use std::alloc::{AllocError, Global};
 use std::sync::Wait;
 use std::test::Fail;
 use std::thread::join;
@@ -108,26 +108,33 @@ impl Desk for Script {
     }
 }
 
+/// The call that is refused, whether the work ends, and how many claims are taken back.
+static REFUSALS: [(u64, bool, u64); 8] = [
+    (1, false, 0),
+    (2, false, 1),
+    (3, false, 1),
+    (4, false, 1),
+    (5, false, 2),
+    (6, false, 2),
+    (7, false, 2),
+    (8, true, 2),
+];
+
+/// Whether the work at such a desk ends, how often the seat was answered that all is over, how many claims it takes back, and
+/// how many it has in hand then.
+fn worked<R: Wait>(rt: &R, alloc: Global, refused: u64) -> (bool, u64, u64, u64) {
+    let desk = Script { claims: 2, refused };
+    let mut seat = Place::new();
+    let ends = work(rt, alloc, &desk, &mut seat, &OpenGate).is_ok();
+    (ends, seat.overs, seat.backs, seat.claims)
+}
+
 #[test]
 fn claims_are_taken_back(rt: HostRuntime) -> Result<(), Fail> {
-    let rows: [(u64, bool, u64); 8] = [
-        (1, false, 0),
-        (2, false, 1),
-        (3, false, 1),
-        (4, false, 1),
-        (5, false, 2),
-        (6, false, 2),
-        (7, false, 2),
-        (8, true, 2),
-    ];
-    for (refused, ends, backs) in rows {
-        let desk = Script { claims: 2, refused };
-        let mut seat = Place::new();
-        let worked = work(&rt, rt.alloc(), &desk, &mut seat, &OpenGate);
-        assert_eq!(rt; worked.is_ok(), ends, "refused at {refused}");
-        assert_eq!(rt; seat.overs, u64::from(ends), "told at {refused}");
-        assert_eq!(rt; seat.backs, backs, "taken back at {refused}");
-        assert_eq!(rt; seat.claims, 0, "in hand at {refused}");
+    for (refused, ends, backs) in &REFUSALS {
+        let found = worked(&rt, rt.alloc(), *refused);
+        let wanted = (*ends, u64::from(*ends), *backs, 0);
+        assert_eq!(rt; found, wanted, "refused at {refused}");
     }
     Ok(())
 }

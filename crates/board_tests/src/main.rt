@@ -1,6 +1,6 @@
-//! Boards, gates, workers in threads, and jobs that they run.
+//! Tests of boards, gates, seats, workers in threads, and jobs that they run.
 //!
-//! They stand in a crate of their own so that a crate is proved once, without its tests.
+//! They are in a crate of their own so that a crate is proved once, without its tests.
 #![tactic(auto)]
 
 #[cfg(test)]
@@ -8,7 +8,13 @@ mod boards;
 #[cfg(test)]
 mod gates;
 #[cfg(test)]
+mod jobs;
+#[cfg(test)]
+mod looks;
+#[cfg(test)]
 mod parallel;
+#[cfg(test)]
+mod seats;
 #[cfg(test)]
 mod workers;
 

@@ -6,7 +6,11 @@
 #[cfg(test)]
 mod calls;
 #[cfg(test)]
+mod ends;
+#[cfg(test)]
 mod pictures;
+#[cfg(test)]
+mod sinks;
 #[cfg(test)]
 mod sources;
 #[cfg(test)]

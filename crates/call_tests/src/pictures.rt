@@ -1,15 +1,25 @@
 //! Pictures that were drawn by hand, and calls whose source or sinks fail.
 
-use run_io::{MemorySink, MemorySource, Source};
+use crate::ends::{bytes_of, sink_of, source_of};
+use run_io::{MemorySource, Source};
 use run_journal::{Entry, JournalFault, journal_read};
 use std::alloc::{AllocError, Global};
 use std::test::Fail;
 use trace_picture::{picture_text, view_trace};
 
-/// Traces, and the lines of their pictures behind the legend.
-static PICTURES: [(&str, &str); 3] = [
+/// A part of a picture.
+#[derive(Clone, Copy)]
+enum Part {
+    FirstLine,
+    /// What stands after the line that opens the picture itself.
+    AfterLegend,
+}
+
+/// Traces, parts of their pictures, and the lines of these parts.
+static PICTURES: [(&str, Part, &str); 4] = [
     (
         "",
+        Part::AfterLegend,
         r##"<svg y="1em"><line class="grid" x2="0em"/><text class="side" x="-1em">0</text></svg>
 <svg y="1em"><path class="line" d="M0 0"/></svg>
 </svg>
@@ -18,6 +28,7 @@ static PICTURES: [(&str, &str); 3] = [
     ),
     (
         "claim 0 by 1\ncopy 0 by 1\nclaim 7 by 0\ngive 0 by 1\nback 7 by 0\nclaim 7 by 0\n",
+        Part::AfterLegend,
         r##"<rect class="lane" y="0em" width="6em" height="2em"/><text class="side" x="-1em" y="1em">seat 0</text>
 <svg y="9em"><line class="grid" x2="6em"/><text class="side" x="-1em">1</text></svg>
 <rect class="lane" y="3em" width="6em" height="2em"/><text class="side" x="-1em" y="4em">seat 1</text>
@@ -35,6 +46,7 @@ static PICTURES: [(&str, &str); 3] = [
     ),
     (
         "give 1 by 0\ngive 1 by 0\ngive 1 by 0\ngive 1 by 0\ngive 1 by 0\ngive 1 by 0\ngive 1 by 0\ngive 1 by 0\ngive 1 by 0\ngive 1 by 0\n",
+        Part::AfterLegend,
         r##"<rect class="lane" y="0em" width="10em" height="2em"/><text class="side" x="-1em" y="1em">seat 0</text>
 <svg y="4em"><line class="grid" x2="10em"/><text class="side" x="-1em">1</text></svg>
 <svg y="6em"><line class="grid" x2="10em"/><text class="side" x="-1em">0</text></svg>
@@ -44,128 +56,153 @@ static PICTURES: [(&str, &str); 3] = [
 </svg>
 "##,
     ),
-];
-
-/// The call of the source, of the output and of the error output that fails, 0 for none; and the status, how much of
-/// the picture the output has, and what the error output has.
-static CALLS: [(u32, u32, u32, &str, &str); 9] = [
-    (0, 0, 0, "claim 0 by 0\n", "0 whole "),
-    (2, 0, 0, "claim 0 by 0\n", "3 none error: read failed\n"),
-    (3, 0, 0, "claim 0 by 0\n", "3 none error: read failed\n"),
-    (0, 1, 0, "claim 0 by 0\n", "4 none "),
-    (0, 2, 0, "claim 0 by 0\n", "4 cut "),
-    (0, 0, 1, "claim 0 by 0\n", "0 whole "),
-    (0, 1, 0, "claim x\n", "12 none error: journal line 1\n"),
     (
-        0,
-        0,
-        0,
-        "copy 0 by 0\nin order\n",
-        "12 none error: journal line 2\n",
+        "claim 0 by 3\n",
+        Part::FirstLine,
+        r##"<svg xmlns="http://www.w3.org/2000/svg" width="660" height="290" viewBox="0 0 660 290" font-size="10">"##,
     ),
-    (0, 0, 2, "in order\n", "4 none error: jou"),
 ];
 
-fn entries_of(alloc: Global, trace: &str) -> Result<Vec<Entry>, JournalFault> {
-    journal_read(alloc, trace.as_bytes())
+/// How much of a picture an output holds.
+#[derive(Clone, Copy)]
+enum Much {
+    Nothing,
+    Cut,
+    Whole,
 }
 
-/// What stands in a text behind the line that opens the picture itself.
-fn behind_legend(text: &str) -> Option<&str> {
-    let (_, rest) = text.split_once("<svg x=\"8em\" y=\"6em\">\n")?;
-    Some(rest)
+/// The call of the source, of the output and of the error output that fails, 0 for none, and a
+/// trace; and the status, how much of the picture the output has, and what the error output has.
+static CALLS: [([u32; 3], &str, u8, Much, &str); 9] = [
+    ([0, 0, 0], "claim 0 by 0\n", 0, Much::Whole, ""),
+    (
+        [2, 0, 0],
+        "claim 0 by 0\n",
+        3,
+        Much::Nothing,
+        "error: read failed\n",
+    ),
+    (
+        [3, 0, 0],
+        "claim 0 by 0\n",
+        3,
+        Much::Nothing,
+        "error: read failed\n",
+    ),
+    ([0, 1, 0], "claim 0 by 0\n", 4, Much::Nothing, ""),
+    ([0, 2, 0], "claim 0 by 0\n", 4, Much::Cut, ""),
+    ([0, 0, 1], "claim 0 by 0\n", 0, Much::Whole, ""),
+    (
+        [0, 1, 0],
+        "claim x\n",
+        12,
+        Much::Nothing,
+        "error: journal line 1\n",
+    ),
+    (
+        [0, 0, 0],
+        "copy 0 by 0\nin order\n",
+        12,
+        Much::Nothing,
+        "error: journal line 2\n",
+    ),
+    ([0, 0, 2], "in order\n", 4, Much::Nothing, "error: jou"),
+];
+
+fn part_of(text: &str, part: Part) -> Option<&str> {
+    match part {
+        Part::FirstLine => text.lines().next(),
+        Part::AfterLegend => {
+            let (_, rest) = text.split_once("<svg x=\"8em\" y=\"6em\">\n")?;
+            Some(rest)
+        }
+    }
+}
+
+/// The picture of a trace.
+fn drawn(alloc: Global, journal: Result<Vec<Entry>, JournalFault>) -> Result<String, JournalFault> {
+    let journal = journal?;
+    Ok(picture_text(alloc, journal.as_slice())?)
+}
+
+/// Whether this part of the picture of a trace is so.
+fn has_part(alloc: Global, trace: &str, part: Part, wanted: &str) -> Result<bool, JournalFault> {
+    let text = drawn(alloc, journal_read(alloc, trace.as_bytes()))?;
+    Ok(part_of(text.as_str(), part) == Some(wanted))
 }
 
 #[test]
 fn each_trace_has_its_picture(rt: HostRuntime) -> Result<(), Fail> {
-    let alloc = rt.alloc();
-    for (trace, wanted) in &PICTURES {
-        let journal = entries_of(alloc, trace)?;
-        let text = picture_text(alloc, journal.as_slice())?;
-        assert_eq!(&rt; behind_legend(text.as_str()), Some(*wanted), "{trace}");
+    for (trace, part, wanted) in &PICTURES {
+        assert!(&rt; has_part(rt.alloc(), trace, *part, wanted)?, "{trace}");
     }
     Ok(())
 }
 
-#[test]
-fn each_picture_begins_with_its_size(rt: HostRuntime) -> Result<(), Fail> {
-    let alloc = rt.alloc();
-    let journal = entries_of(alloc, "claim 0 by 3\n")?;
-    let text = picture_text(alloc, journal.as_slice())?;
-    let line = text.as_str().lines().next();
-    let wanted =
-        r##"<svg xmlns="http://www.w3.org/2000/svg" width="660" height="290" viewBox="0 0 660 290" font-size="10">"##;
-    assert_eq!(&rt; line, Some(wanted));
-    Ok(())
+/// Whether an output holds so much of this picture.
+fn holds(held: &[u8], much: Much, whole: &[u8]) -> bool {
+    match much {
+        Much::Nothing => held.is_empty(),
+        Much::Cut => !held.is_empty() && held != whole,
+        Much::Whole => held == whole,
+    }
 }
 
-/// A source that has the bytes left, and fails at this call.
-fn source_of(alloc: Global, bytes: Vec<u8>, fails: u32) -> Result<MemorySource, AllocError> {
-    let mut source = MemorySource::new(bytes, Vec::from_slice(alloc, &[fails])?);
+/// Whether a call over a source that is begun, and over sinks that take 1,000 and 10 bytes a write
+/// and fail at these calls, has this status, leaves so much of this picture in the output, and
+/// this text in the error output.
+fn comes_out(
+    alloc: Global,
+    source: Result<MemorySource, AllocError>,
+    fails: (u32, u32),
+    whole: &[u8],
+    wanted: (u8, Much, &str),
+) -> Result<bool, AllocError> {
+    let mut source = source?;
     let _ = source.begin(String::new(alloc));
-    Ok(source)
+    let mut out = sink_of(alloc, 10_000, 1000, fails.0)?;
+    let mut err = sink_of(alloc, 100, 10, fails.1)?;
+    let status = view_trace(alloc, &mut source, &mut out, &mut err);
+    let (told, much, text) = wanted;
+    Ok(status == told && holds(out.bytes(), much, whole) && err.bytes() == text.as_bytes())
 }
 
-/// How much of a picture of the one claim a sink holds.
-fn how_much(alloc: Global, held: &[u8]) -> Result<&'static str, Fail> {
-    let journal = entries_of(alloc, "claim 0 by 0\n")?;
-    let whole = picture_text(alloc, journal.as_slice())?;
-    Ok(if held.is_empty() {
-        "none"
-    } else if held == whole.as_bytes() {
-        "whole"
-    } else {
-        "cut"
-    })
-}
-
-/// What a call comes to over sinks that take 1,000 and 10 bytes a write.
-fn call(alloc: Global, source: &mut MemorySource, out: u32, err: u32) -> Result<String, Fail> {
-    let mut out = MemorySink::new(alloc, 10_000, 1000, Vec::from_slice(alloc, &[out])?)?;
-    let mut err = MemorySink::new(alloc, 100, 10, Vec::from_slice(alloc, &[err])?)?;
-    let status = view_trace(alloc, source, &mut out, &mut err);
-    let much = how_much(alloc, out.bytes())?;
-    let told = str::from_utf8(err.bytes())?;
-    Ok(format!(in alloc; "{status} {much} {told}")?)
+/// Whether a call over this trace comes out so, where the source and the sinks fail at these
+/// calls.
+fn trace_comes_out(
+    alloc: Global,
+    trace: &str,
+    fails: [u32; 3],
+    whole: &[u8],
+    wanted: (u8, Much, &str),
+) -> Result<bool, AllocError> {
+    let [source, out, err] = fails;
+    let source = source_of(bytes_of(alloc, trace), Vec::from_slice(alloc, &[source]));
+    comes_out(alloc, source, (out, err), whole, wanted)
 }
 
 #[test]
 fn each_call_comes_to_its_status(rt: HostRuntime) -> Result<(), Fail> {
     let alloc = rt.alloc();
-    for (fails, out, err, trace, wanted) in &CALLS {
-        let bytes = Vec::from_slice(alloc, trace.as_bytes())?;
-        let mut source = source_of(alloc, bytes, *fails)?;
-        let told = call(alloc, &mut source, *out, *err)?;
-        assert_eq!(&rt;
-            told.as_str(),
-            *wanted,
-            "calls {fails}, {out} and {err}: {trace}"
-        );
+    let whole = drawn(alloc, journal_read(alloc, b"claim 0 by 0\n"))?;
+    for (fails, trace, status, much, text) in &CALLS {
+        let wanted = (*status, *much, *text);
+        let is_so = trace_comes_out(alloc, trace, *fails, whole.as_bytes(), wanted)?;
+        assert!(&rt; is_so, "calls {fails:?}: {trace}");
     }
     Ok(())
 }
 
-/// So many bytes that are no trace.
-fn long(alloc: Global, bytes: usize) -> Result<Vec<u8>, AllocError> {
-    let chunk = [b'x'; 4096];
-    let mut text = Vec::new(alloc);
-    for _ in 0..bytes / 4096 {
-        text.extend_from_slice(&chunk)?;
-    }
-    text.extend_from_slice(&chunk[..bytes % 4096])?;
-    Ok(text)
-}
-
 #[test]
-fn long_traces(rt: HostRuntime) -> Result<(), Fail> {
+fn long_traces(rt: HostRuntime) -> Result<(), AllocError> {
     let alloc = rt.alloc();
-    for (bytes, wanted) in [
-        (16_777_216, "12 none error: journal line 1\n"),
-        (16_777_217, "8 none error: limit journal 16777216\n"),
+    for (bytes, status, text) in [
+        (16_777_216, 12, "error: journal line 1\n"),
+        (16_777_217, 8, "error: limit journal 16777216\n"),
     ] {
-        let mut source = source_of(alloc, long(alloc, bytes)?, 0)?;
-        let told = call(alloc, &mut source, 0, 0)?;
-        assert_eq!(&rt; told.as_str(), wanted, "{bytes}");
+        let source = source_of(vec![in alloc; b'x'; bytes], Ok(Vec::new(alloc)));
+        let wanted = (status, Much::Nothing, text);
+        assert!(&rt; comes_out(alloc, source, (0, 0), &[], wanted)?, "{bytes}");
     }
     Ok(())
 }

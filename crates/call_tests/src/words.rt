@@ -2,8 +2,6 @@
 
 use command_words::{Command, Run, WordsFault, command};
 use std::alloc::{AllocError, Global};
-use std::process::Abort;
-use std::test::Fail;
 
 /// Words, with `|` between them, and the command that they say.
 static ROWS: [(&str, &str); 45] = [
@@ -64,97 +62,105 @@ fn push_all(text: &mut String, parts: &[&str]) -> Result<(), AllocError> {
     Ok(())
 }
 
-/// The option and its number, where it is named.
+/// A number after its name, where it is named.
 fn push_named(
     alloc: Global,
     text: &mut String,
     name: &str,
     number: Option<u64>,
 ) -> Result<(), AllocError> {
-    match number {
-        Some(n) => {
-            let digits = n.to_string(alloc)?;
-            push_all(text, &[" ", name, " ", digits.as_str()])
-        }
-        None => Ok(()),
-    }
+    let Some(number) = number else {
+        return Ok(());
+    };
+    let digits = number.to_string(alloc)?;
+    push_all(text, &[name, digits.as_str()])
 }
 
-/// A command that runs a program: its name, what is run, and how.
-fn run_text(
-    alloc: Global,
-    command: &str,
-    program: &str,
-    run: &Run<'_>,
-) -> Result<String, AllocError> {
-    let mut text = String::from_str(alloc, command)?;
-    push_all(&mut text, &[" ", program])?;
+/// The numbers of a run.
+fn push_numbers(text: &mut String, run: &Run<'_>) -> Result<(), AllocError> {
     for number in &run.numbers {
-        push_all(&mut text, &[" [", number, "]"])?;
+        push_all(text, &[" [", number, "]"])?;
     }
-    push_named(alloc, &mut text, "workers", run.workers)?;
-    push_named(alloc, &mut text, "turns", run.turns)?;
-    if run.dump {
-        text.push_str(" dump")?;
-    }
-    if run.trace {
-        text.push_str(" trace")?;
-    }
-    Ok(text)
+    Ok(())
 }
 
-fn command_text(alloc: Global, said: &Command<'_>) -> Result<String, AllocError> {
+/// The options of a run.
+fn push_options(alloc: Global, text: &mut String, run: &Run<'_>) -> Result<(), AllocError> {
+    push_named(alloc, text, " workers ", run.workers)?;
+    push_named(alloc, text, " turns ", run.turns)?;
+    let dump = if run.dump { " dump" } else { "" };
+    let trace = if run.trace { " trace" } else { "" };
+    push_all(text, &[dump, trace])
+}
+
+/// A command: its name, what is run or checked, and how.
+fn push_command(alloc: Global, text: &mut String, said: &Command<'_>) -> Result<(), AllocError> {
     match said {
-        Command::Run { file, run } => run_text(alloc, "run", file, run),
-        Command::Check { file } => {
-            let mut text = String::from_str(alloc, "check ")?;
-            text.push_str(file)?;
-            Ok(text)
+        Command::Run { file, run } => {
+            push_all(text, &["run ", file])?;
+            push_numbers(text, run)?;
+            push_options(alloc, text, run)
         }
+        Command::Check { file } => push_all(text, &["check ", file]),
         Command::Sample { colours, run } => {
-            let digits = colours.to_string(alloc)?;
-            run_text(alloc, "sample", digits.as_str(), run)
+            push_named(alloc, text, "sample ", Some(u64::from(*colours)))?;
+            push_numbers(text, run)?;
+            push_options(alloc, text, run)
         }
     }
+}
+
+/// What words say.
+fn push_said(alloc: Global, text: &mut String, words: &[String]) -> Result<(), AllocError> {
+    match command(alloc, words) {
+        Ok(said) => push_command(alloc, text, &said),
+        Err(WordsFault::Refused) => text.push_str("refused"),
+        Err(WordsFault::Memory(error)) => Err(error),
+    }
+}
+
+/// Whether words say this.
+fn say(
+    alloc: Global,
+    words: Result<Vec<String>, AllocError>,
+    wanted: &str,
+) -> Result<bool, AllocError> {
+    let words = words?;
+    let mut text = String::new(alloc);
+    push_said(alloc, &mut text, words.as_slice())?;
+    Ok(text.as_str() == wanted)
+}
+
+/// The program's name alone.
+fn name_alone(alloc: Global) -> Result<Vec<String>, AllocError> {
+    let name = String::from_str(alloc, "regent")?;
+    Ok(vec![in alloc; name]?)
 }
 
 /// The program's name and the words of a row.
 fn words_of(alloc: Global, row: &str) -> Result<Vec<String>, AllocError> {
-    let mut words = Vec::new(alloc);
-    words.push(String::from_str(alloc, "regent")?)?;
+    let mut words = name_alone(alloc)?;
     for word in row.split('|') {
         words.push(String::from_str(alloc, word)?)?;
     }
     Ok(words)
 }
 
-fn said_text(alloc: Global, words: &[String]) -> Result<String, AllocError> {
-    match command(alloc, words) {
-        Ok(said) => command_text(alloc, &said),
-        Err(WordsFault::Refused) => String::from_str(alloc, "refused"),
-        Err(WordsFault::Memory(error)) => Err(error),
-    }
-}
-
 #[test]
-fn each_row_says_its_command(rt: HostRuntime) -> Result<(), Fail> {
+fn each_row_says_its_command(rt: HostRuntime) -> Result<(), AllocError> {
     let alloc = rt.alloc();
-    for (row, want) in &ROWS {
-        let words = words_of(alloc, row)?;
-        let told = said_text(alloc, words.as_slice())?;
-        assert_eq!(&rt; told.as_str(), *want, "at {row}");
+    for (row, wanted) in &ROWS {
+        assert!(rt; say(alloc, words_of(alloc, row), wanted)?, "at {row}");
     }
     Ok(())
 }
 
 /// Without a command, and without even the program's name.
 #[test]
-fn no_words_are_refused(rt: HostRuntime) -> Result<(), Fail> {
+fn no_words_are_refused(rt: HostRuntime) -> Result<(), AllocError> {
     let alloc = rt.alloc();
-    let words = words_of(alloc, "run")?;
-    for count in 0..2 {
-        let told = said_text(alloc, words.as_slice().get(..count).unwrap_or(&[]))?;
-        assert_eq!(&rt; told.as_str(), "refused");
-    }
+    let named = say(alloc, name_alone(alloc), "refused")?;
+    let none = say(alloc, Ok(Vec::new(alloc)), "refused")?;
+    assert_eq!(rt; [named, none], [true; 2]);
     Ok(())
 }

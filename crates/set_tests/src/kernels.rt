@@ -6,7 +6,6 @@ use lane_kernels::{
     Op, Width, and_words, any_common, copy_masked, equal, fold, fold_masked, minus_words, or_words,
 };
 use std::alloc::{AllocError, Global};
-use std::test::Fail;
 
 #[test]
 fn folds_by_hand(rt: HostRuntime) {
@@ -38,10 +37,13 @@ fn folds_by_hand(rt: HostRuntime) {
     for (op, width, before, from, want) in rows {
         let mut into = before;
         fold(op, width, &mut into, &from);
-        assert_eq!(rt; into, want, "{op:?} of {before:?} and {from:?}");
         let mut masked = before;
         fold_masked(op, width, &mut masked, &from, &[false, true]);
-        assert_eq!(rt; masked, [before[0], want[1]], "{op:?} behind a mask");
+        assert_eq!(rt;
+            (into, masked),
+            (want, [before[0], want[1]]),
+            "{op:?} of {before:?} and {from:?}"
+        );
     }
 }
 
@@ -49,16 +51,16 @@ fn folds_by_hand(rt: HostRuntime) {
 fn copies_and_words_by_hand(rt: HostRuntime) {
     let mut copied = [1, 2, 3];
     copy_masked(&mut copied, &[7, 8, 9], &[true, false, true]);
-    assert_eq!(rt; copied, [7, 2, 9]);
-    assert!(rt; equal(&[], &[]));
-    assert!(rt; !equal(&[1], &[]));
     let (mut both, mut either, mut rest) = ([6], [6], [6]);
     and_words(&mut both, &[3]);
     or_words(&mut either, &[3]);
     minus_words(&mut rest, &[3]);
-    assert_eq!(rt; (both, either, rest), ([2], [7], [4]));
-    assert!(rt; !any_common(&[6], &[1]));
-    assert!(rt; any_common(&[6], &[3]));
+    let alike = [equal(&[], &[]), equal(&[1], &[])];
+    let common = [any_common(&[6], &[1]), any_common(&[6], &[3])];
+    assert_eq!(rt;
+        (copied, [both, either, rest], [alike, common]),
+        ([7, 2, 9], [[2], [7], [4]], [[true, false], [false, true]])
+    );
 }
 
 /// So many of one item.
@@ -107,22 +109,30 @@ fn numbers_come_out(alloc: Global, length: usize) -> Result<bool, AllocError> {
     Ok(folds && copies_come_out(alloc, &from, true)? && copies_come_out(alloc, &from, false)?)
 }
 
-/// Whether a list of a length is unlike itself with another last number, and words share a bit only with another last
-/// word.
-fn last_is_seen(alloc: Global, length: usize) -> Result<bool, AllocError> {
+/// Whether a list of this number is unlike itself with another last one.
+fn last_is_unlike(alloc: Global, length: usize) -> Result<bool, AllocError> {
     let numbers = all(alloc, 4, length)?;
     let mut other = all(alloc, 4, length)?;
     if let Some(last) = other.last_mut() {
         *last = -4;
     }
+    Ok(equal(&numbers, &other) == (length == 0))
+}
+
+/// Whether words share a bit only with another last word.
+fn last_is_common(alloc: Global, length: usize) -> Result<bool, AllocError> {
     let bits = all(alloc, 1, length)?;
     let mut word = all(alloc, 6, length)?;
     let apart = !any_common(&word, &bits);
     if let Some(last) = word.last_mut() {
         *last = 3;
     }
-    let common = any_common(&bits, &word) == (length > 0);
-    Ok(equal(&numbers, &other) == (length == 0) && apart && common)
+    Ok(apart && any_common(&bits, &word) == (length > 0))
+}
+
+/// Whether the last of a list of a length plays its part.
+fn last_is_seen(alloc: Global, length: usize) -> Result<bool, AllocError> {
+    Ok(last_is_unlike(alloc, length)? && last_is_common(alloc, length)?)
 }
 
 /// Whether words are all the same one.
@@ -135,25 +145,54 @@ fn words_are(words: &[u64], expected: u64) -> bool {
     true
 }
 
+/// An operation on words.
+#[derive(Clone, Copy)]
+enum Words {
+    And,
+    Or,
+    Minus,
+}
+
+/// Whether an operation on words that were made comes out as this word at each place.
+fn operation_comes_out(
+    words: Result<Vec<u64>, AllocError>,
+    operation: Words,
+    from: &[u64],
+    expected: u64,
+) -> Result<bool, AllocError> {
+    let mut words = words?;
+    if words.len() != from.len() {
+        return Ok(false);
+    }
+    match operation {
+        Words::And => and_words(&mut words, from),
+        Words::Or => or_words(&mut words, from),
+        Words::Minus => minus_words(&mut words, from),
+    }
+    Ok(words_are(&words, expected))
+}
+
 /// Whether the words of 6 and 3 come out right at each place of lists of a length.
 fn words_come_out(alloc: Global, length: usize) -> Result<bool, AllocError> {
     let from = all(alloc, 3, length)?;
-    let mut both = all(alloc, 6, length)?;
-    and_words(&mut both, &from);
-    let mut either = all(alloc, 6, length)?;
-    or_words(&mut either, &from);
-    let mut rest = all(alloc, 6, length)?;
-    minus_words(&mut rest, &from);
-    Ok(words_are(&both, 2) && words_are(&either, 7) && words_are(&rest, 4))
+    for (operation, expected) in [(Words::And, 2), (Words::Or, 7), (Words::Minus, 4)] {
+        if !operation_comes_out(all(alloc, 6, length), operation, &from, expected)? {
+            return Ok(false);
+        }
+    }
+    Ok(true)
 }
 
 #[test]
-fn each_length(rt: HostRuntime) -> Result<(), Fail> {
+fn each_length(rt: HostRuntime) -> Result<(), AllocError> {
     let alloc = rt.alloc();
     for length in [0, 1, 7, 8, 9, 4_097] {
-        assert!(rt; numbers_come_out(alloc, length)?, "numbers at {length}");
-        assert!(rt; last_is_seen(alloc, length)?, "the last at {length}");
-        assert!(rt; words_come_out(alloc, length)?, "words at {length}");
+        let found = [
+            numbers_come_out(alloc, length)?,
+            last_is_seen(alloc, length)?,
+            words_come_out(alloc, length)?,
+        ];
+        assert_eq!(rt; found, [true; 3], "{length}");
     }
     Ok(())
 }

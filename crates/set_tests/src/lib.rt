@@ -6,6 +6,8 @@
 #[cfg(test)]
 mod kernels;
 #[cfg(test)]
+mod largest;
+#[cfg(test)]
 mod numbers;
 #[cfg(test)]
 mod parts;

@@ -21,17 +21,16 @@ fn operators(rt: HostRuntime) {
         (Op::Greatest, Width::W64, i64::MIN, i64::MAX, i64::MAX),
     ];
     for (op, width, a, b, want) in rows {
-        assert_eq!(rt; op.apply(width, a, b), want, "{op:?} of {a} and {b}");
-        assert_eq!(rt;
+        let found = [
+            op.apply(width, a, b),
             op.apply(width, op.identity(width), a),
-            a,
-            "identity of {op:?}"
-        );
+        ];
+        assert_eq!(rt; found, [want, a], "{op:?} of {a} and {b}");
     }
 }
 
 #[test]
-fn modes_and_widths(rt: HostRuntime) {
+fn modes(rt: HostRuntime) {
     let sum = Mode::Reduce(Op::Sum);
     let least = Mode::Reduce(Op::Least);
     let rows = [
@@ -43,17 +42,21 @@ fn modes_and_widths(rt: HostRuntime) {
         (sum, least, Mode::Write, true),
     ];
     for (a, b, joined, conflict) in rows {
-        assert_eq!(rt; a.join(b), joined, "{a:?} joined with {b:?}");
-        assert_eq!(rt; b.conflicts(a), conflict, "{b:?} beside {a:?}");
+        let found = (a.join(b), b.conflicts(a));
+        assert_eq!(rt; found, (joined, conflict), "{a:?} and {b:?}");
     }
-    assert_eq!(rt; FieldKind::Int32.width(), Width::W32);
-    for kind in [
-        FieldKind::Int64,
-        FieldKind::Truth,
-        FieldKind::Index,
-        FieldKind::Pointer,
-    ] {
-        assert_eq!(rt; kind.width(), Width::W64, "{kind:?}");
-    }
+}
+
+#[test]
+fn widths(rt: HostRuntime) {
+    let found = [
+        FieldKind::Int32.width(),
+        FieldKind::Int64.width(),
+        FieldKind::Truth.width(),
+        FieldKind::Index.width(),
+        FieldKind::Pointer.width(),
+    ];
+    let wide = Width::W64;
+    assert_eq!(rt; found, [Width::W32, wide, wide, wide, wide]);
     assert_eq!(rt; Width::W32.wrap(0x1_8000_0001), LEAST_32 + 1);
 }

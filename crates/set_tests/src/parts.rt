@@ -1,11 +1,8 @@
-//! The operations against tables by hand, and at their largest sizes.
-
-ghost use Rattle.std.specs.Prelude.{◌≡◌, length};
+//! The operations against tables by hand.
 
 use partitions::{both, by_field, either_of, equal, image, preimage, without};
 use point_sets::{POINT_LIMIT, PointSet};
 use std::alloc::{AllocError, Global};
-use std::test::Fail;
 
 /// The set of some points.
 fn set_of(alloc: Global, points: &[u32]) -> Result<PointSet, AllocError> {
@@ -46,17 +43,29 @@ fn have(sets: &[PointSet], lists: &[&[u32]]) -> bool {
     sets.len() == lists.len()
 }
 
-/// Whether the sets that an operation gave have the points of lists, and the flag beside them.
-fn made(
+/// Whether the sets that an operation gave have the points of lists, and this flag beside them.
+fn come_out(
     given: Result<(Vec<PointSet>, bool), AllocError>,
+    flag: bool,
     lists: &[&[u32]],
-) -> Result<(bool, bool), AllocError> {
+) -> Result<bool, AllocError> {
     let (sets, disjoint) = given?;
-    Ok((have(sets.as_slice(), lists), disjoint))
+    Ok(disjoint == flag && have(sets.as_slice(), lists))
+}
+
+/// Whether the equal parts of a region have the points of lists.
+fn equal_come_out(
+    alloc: Global,
+    region: Result<PointSet, AllocError>,
+    colours: u32,
+    want: &[&[u32]],
+) -> Result<bool, AllocError> {
+    let region = region?;
+    come_out(equal(alloc, &region, colours), true, want)
 }
 
 #[test]
-fn equal_parts(rt: HostRuntime) -> Result<(), Fail> {
+fn equal_parts(rt: HostRuntime) -> Result<(), AllocError> {
     let alloc = rt.alloc();
     let rows: [(&[u32], u32, &[&[u32]]); 7] = [
         (
@@ -72,15 +81,29 @@ fn equal_parts(rt: HostRuntime) -> Result<(), Fail> {
         (&[1, 4_194_303], 2, &[&[1], &[4_194_303]]),
     ];
     for (region, colours, want) in rows {
-        let region = set_of(alloc, region)?;
-        let parts = made(equal(alloc, &region, colours), want)?;
-        assert_eq!(rt; parts, (true, true), "{colours}");
+        let parts = equal_come_out(alloc, set_of(alloc, region), colours, want)?;
+        assert!(rt; parts, "{colours}");
     }
     Ok(())
 }
 
+/// Whether the parts of a region by a field, in three colours at most, have the points of lists.
+fn fields_come_out(
+    alloc: Global,
+    region: Result<PointSet, AllocError>,
+    values: &[i64],
+    colours: u32,
+    want: &[&[u32]],
+) -> Result<bool, AllocError> {
+    let region = region?;
+    if region.len() as usize != values.len() || colours > 3 {
+        return Ok(false);
+    }
+    come_out(by_field(alloc, &region, values, colours), true, want)
+}
+
 #[test]
-fn fields(rt: HostRuntime) -> Result<(), Fail> {
+fn fields(rt: HostRuntime) -> Result<(), AllocError> {
     let alloc = rt.alloc();
     let rows: [(&[u32], &[i64], u32, &[&[u32]]); 6] = [
         (&[0, 1, 2, 3], &[0, 7, 1, 0], 2, &[&[0, 3], &[2]]),
@@ -91,10 +114,8 @@ fn fields(rt: HostRuntime) -> Result<(), Fail> {
         (&[1, 2, 3], &[4_294_967_296, i64::MAX, i64::MIN], 1, &[&[]]),
     ];
     for (region, values, colours, want) in rows {
-        let region = set_of(alloc, region)?;
-        assert!(rt; region.len() as usize == values.len() && colours <= 3);
-        let parts = made(by_field(alloc, &region, values, colours), want)?;
-        assert_eq!(rt; parts, (true, true), "{values:?}");
+        let parts = fields_come_out(alloc, set_of(alloc, region), values, colours, want)?;
+        assert!(rt; parts, "{values:?}");
     }
     Ok(())
 }
@@ -104,21 +125,23 @@ fn images_come_out(
     alloc: Global,
     parent: &[u32],
     sets: &[&[u32]],
-    region: &PointSet,
+    region: Result<PointSet, AllocError>,
     values: &[i64],
     pointers: bool,
     want: &[&[u32]],
-) -> Result<bool, AllocError>
-    requires { length values.now ≡ length region.now }
-{
+) -> Result<bool, AllocError> {
+    let region = region?;
     let parent = set_of(alloc, parent)?;
     let sets = sets_of(alloc, sets)?;
-    let images = image(alloc, &parent, sets.as_slice(), region, values, pointers);
-    Ok(made(images, want)? == (true, false))
+    if region.len() as usize != values.len() {
+        return Ok(false);
+    }
+    let images = image(alloc, &parent, sets.as_slice(), &region, values, pointers);
+    come_out(images, false, want)
 }
 
 #[test]
-fn images(rt: HostRuntime) -> Result<(), Fail> {
+fn images(rt: HostRuntime) -> Result<(), AllocError> {
     let alloc = rt.alloc();
     let all: &[u32] = &[0, 1, 2, 3];
     let rows: [(&[u32], &[&[u32]], &[u32], &[i64], bool, &[&[u32]]); 8] = [
@@ -167,9 +190,8 @@ fn images(rt: HostRuntime) -> Result<(), Fail> {
         ),
     ];
     for (parent, sets, region, values, pointers, want) in rows {
-        let region = set_of(alloc, region)?;
-        assert_eq!(rt; region.len() as usize, values.len());
-        let images = images_come_out(alloc, parent, sets, &region, values, pointers, want)?;
+        let region = set_of(alloc, region);
+        let images = images_come_out(alloc, parent, sets, region, values, pointers, want)?;
         assert!(rt; images, "{values:?} {pointers}");
     }
     Ok(())
@@ -181,29 +203,31 @@ fn preimages_come_out(
     alloc: Global,
     parent: &[u32],
     sets: &[&[u32]],
-    region: &PointSet,
+    region: Result<PointSet, AllocError>,
     values: &[i64],
-    flags: (bool, bool),
+    (pointers, flag): (bool, bool),
     want: &[&[u32]],
-) -> Result<bool, AllocError>
-    requires { length values.now ≡ length region.now }
-{
+) -> Result<bool, AllocError> {
+    let region = region?;
     let parent = set_of(alloc, parent)?;
     let sets = sets_of(alloc, sets)?;
+    if region.len() as usize != values.len() {
+        return Ok(false);
+    }
     let preimages = preimage(
         alloc,
         &parent,
         sets.as_slice(),
-        region,
+        &region,
         values,
-        flags.0,
-        flags.1,
+        pointers,
+        flag,
     );
-    Ok(made(preimages, want)? == (true, flags.1))
+    come_out(preimages, flag, want)
 }
 
 #[test]
-fn preimages(rt: HostRuntime) -> Result<(), Fail> {
+fn preimages(rt: HostRuntime) -> Result<(), AllocError> {
     let alloc = rt.alloc();
     let rows: [(&[u32], &[&[u32]], &[i64], bool, bool, &[&[u32]]); 7] = [
         (
@@ -249,18 +273,17 @@ fn preimages(rt: HostRuntime) -> Result<(), Fail> {
             &[&[0]],
         ),
     ];
-    let region = set_of(alloc, &[0, 1, 2])?;
     for (parent, sets, values, pointers, flag, want) in rows {
-        assert_eq!(rt; region.len() as usize, values.len());
+        let region = set_of(alloc, &[0, 1, 2]);
         let flags = (pointers, flag);
-        let preimages = preimages_come_out(alloc, parent, sets, &region, values, flags, want)?;
+        let preimages = preimages_come_out(alloc, parent, sets, region, values, flags, want)?;
         assert!(rt; preimages, "{values:?} {pointers}");
     }
     Ok(())
 }
 
 /// Whether the operations on sets, colour by colour, have the points of lists, with each flag.
-fn operations_come_out(
+fn operations_on(
     alloc: Global,
     p: &[PointSet],
     q: &[PointSet],
@@ -268,18 +291,31 @@ fn operations_come_out(
     union: &[&[u32]],
     rest: &[&[u32]],
 ) -> Result<bool, AllocError> {
-    let united = made(either_of(alloc, p, q), union)?;
-    let mut are_well = united == (true, false);
+    let mut are_well = come_out(either_of(alloc, p, q), false, union)?;
     for flag in [false, true] {
-        let met = made(both(alloc, p, q, flag), meet)?;
-        let left = made(without(alloc, p, q, flag), rest)?;
-        are_well = are_well && [met, left] == [(true, flag), (true, flag)];
+        let met = come_out(both(alloc, p, q, flag), flag, meet)?;
+        let left = come_out(without(alloc, p, q, flag), flag, rest)?;
+        are_well = are_well && met && left;
     }
     Ok(are_well)
 }
 
+/// Whether the operations on sets that were made have the points of lists.
+fn operations_come_out(
+    alloc: Global,
+    left: Result<Vec<PointSet>, AllocError>,
+    right: Result<Vec<PointSet>, AllocError>,
+    meet: &[&[u32]],
+    union: &[&[u32]],
+    rest: &[&[u32]],
+) -> Result<bool, AllocError> {
+    let left = left?;
+    let right = right?;
+    operations_on(alloc, left.as_slice(), right.as_slice(), meet, union, rest)
+}
+
 #[test]
-fn set_operations(rt: HostRuntime) -> Result<(), Fail> {
+fn set_operations(rt: HostRuntime) -> Result<(), AllocError> {
     let alloc = rt.alloc();
     let rows: [(&[&[u32]], &[&[u32]], &[&[u32]], &[&[u32]], &[&[u32]]); 5] = [
         (&[&[0, 1]], &[], &[&[]], &[&[0, 1]], &[&[0, 1]]),
@@ -307,137 +343,9 @@ fn set_operations(rt: HostRuntime) -> Result<(), Fail> {
         ),
     ];
     for (left, right, meet, union, rest) in rows {
-        let p = sets_of(alloc, left)?;
-        let q = sets_of(alloc, right)?;
-        let (p, q) = (p.as_slice(), q.as_slice());
-        assert!(rt;
-            operations_come_out(alloc, p, q, meet, union, rest)?,
-            "{meet:?} {union:?}"
-        );
+        let (left, right) = (sets_of(alloc, left), sets_of(alloc, right));
+        let operations = operations_come_out(alloc, left, right, meet, union, rest)?;
+        assert!(rt; operations, "{meet:?} {union:?}");
     }
-    Ok(())
-}
-
-/// Numbers at so many points: the place times a factor, modulo a bound.
-fn spread(alloc: Global, count: u32, factor: u32, bound: u32) -> Result<Vec<i64>, AllocError> {
-    let mut values = Vec::with_capacity(alloc, count as usize)?;
-    for place in 0..count {
-        let number = u64::from(place) * u64::from(factor) % u64::from(bound.max(1));
-        values.push(number.cast_signed())?;
-    }
-    Ok(values)
-}
-
-/// The points of all sets together.
-fn total(sets: &[PointSet]) -> u64 {
-    let mut sum = 0_u64;
-    for set in sets {
-        sum = sum.wrapping_add(u64::from(set.len()));
-    }
-    sum
-}
-
-/// All points in 65536 equal sets.
-fn all_parts(alloc: Global) -> Result<Vec<PointSet>, AllocError> {
-    let region = PointSet::range(alloc, 0, POINT_LIMIT)?;
-    let (sets, _) = equal(alloc, &region, 65_536)?;
-    Ok(sets)
-}
-
-#[test]
-fn largest_equal(rt: HostRuntime) -> Result<(), Fail> {
-    let sets = all_parts(rt.alloc())?;
-    assert_eq!(rt; (sets.len(), total(sets.as_slice())), (65_536, 4_194_304));
-    if let Some(set) = sets.get(65_535) {
-        assert_eq!(rt; (set.len(), set.at(0)), (64, Some(4_194_240)));
-    }
-    Ok(())
-}
-
-#[test]
-fn largest_field(rt: HostRuntime) -> Result<(), Fail> {
-    let alloc = rt.alloc();
-    let region = PointSet::range(alloc, 0, POINT_LIMIT)?;
-    let values = spread(alloc, POINT_LIMIT, 40_503, 65_536)?;
-    assert_eq!(rt; region.len() as usize, values.len());
-    let (sets, _) = by_field(alloc, &region, values.as_slice(), 65_536)?;
-    assert_eq!(rt; (sets.len(), total(sets.as_slice())), (65_536, 4_194_304));
-    if let Some(set) = sets.get(40_503) {
-        assert_eq!(rt;
-            (set.len(), set.at(0), set.at(1)),
-            (64, Some(1), Some(65_537))
-        );
-    }
-    Ok(())
-}
-
-/// How many colours and points an operation gives.
-fn sizes(made: Result<(Vec<PointSet>, bool), AllocError>) -> Result<(usize, u64), AllocError> {
-    let (sets, _) = made?;
-    Ok((sets.len(), total(sets.as_slice())))
-}
-
-#[test]
-fn largest_set_operations(rt: HostRuntime) -> Result<(), Fail> {
-    let alloc = rt.alloc();
-    let sets = all_parts(alloc)?;
-    let parts = sets.as_slice();
-    let same = sizes(both(alloc, parts, parts, true))?;
-    let all = sizes(either_of(alloc, parts, parts))?;
-    let rest = sizes(without(alloc, parts, parts, false))?;
-    assert_eq!(rt;
-        (same, all, rest),
-        ((65_536, 4_194_304), (65_536, 4_194_304), (65_536, 0))
-    );
-    Ok(())
-}
-
-/// The images of a thousand equal parts of a region within it.
-fn images_of_parts(
-    alloc: Global,
-    region: &PointSet,
-    values: &[i64],
-) -> Result<Vec<PointSet>, AllocError>
-    requires { length values.now ≡ length region.now }
-{
-    let (parts, _) = equal(alloc, region, 1_000)?;
-    let (images, _) = image(alloc, region, parts.as_slice(), region, values, false)?;
-    Ok(images)
-}
-
-/// The preimages of sets within a region.
-fn preimages_of(
-    alloc: Global,
-    sets: &[PointSet],
-    region: &PointSet,
-    values: &[i64],
-) -> Result<Vec<PointSet>, AllocError>
-    requires { length values.now ≡ length region.now }
-{
-    let (back, _) = preimage(alloc, region, sets, region, values, false, false)?;
-    Ok(back)
-}
-
-/// Whether images and their preimages are as many as told, and the second ones begin and end as told.
-fn are_thousands(images: &[PointSet], back: &[PointSet]) -> bool {
-    let counts = [images.len(), back.len()] == [1_000, 1_000];
-    let (Some(image), Some(part)) = (images.get(1), back.get(1)) else {
-        return false;
-    };
-    let points = [image.at(0), image.at(1), part.at(0), part.at(999)];
-    counts
-        && [total(images), total(back)] == [1_000_000, 1_000_000]
-        && points == [Some(7_000), Some(7_007), Some(1_000), Some(1_999)]
-}
-
-#[test]
-fn large_images(rt: HostRuntime) -> Result<(), Fail> {
-    let alloc = rt.alloc();
-    let region = PointSet::range(alloc, 0, 1_000_000)?;
-    let values = spread(alloc, 1_000_000, 7, 1_000_000)?;
-    assert_eq!(rt; region.len() as usize, values.len());
-    let images = images_of_parts(alloc, &region, values.as_slice())?;
-    let back = preimages_of(alloc, images.as_slice(), &region, values.as_slice())?;
-    assert!(rt; are_thousands(images.as_slice(), back.as_slice()));
     Ok(())
 }

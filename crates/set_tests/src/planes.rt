@@ -69,6 +69,20 @@ fn come_out(
     Ok(has_points(&union, either) && has_points(&meet, both) && has_points(&minus, rest))
 }
 
+/// Whether two planes that were made are related as these points tell, and their union, meet and difference have them.
+fn pair_comes_out(
+    a: Result<Plane, AllocError>,
+    b: Result<Plane, AllocError>,
+    either: &[u32],
+    both: &[u32],
+    rest: &[u32],
+) -> Result<bool, AllocError> {
+    let a = a?;
+    let b = b?;
+    let related = [a.meets(&b), a.within(&b)] == [!both.is_empty(), rest.is_empty()];
+    Ok(come_out(&a, &b, either, both, rest)? && related)
+}
+
 /// How many points either of two planes has, both have, and the first alone has.
 fn sizes(a: &Plane, b: &Plane) -> Result<[u32; 3], AllocError> {
     let either = a.union(b)?;
@@ -110,13 +124,8 @@ fn small_planes(rt: HostRuntime) -> Result<(), AllocError> {
         ),
     ];
     for (left, right, either, both, rest) in rows {
-        let a = made(alloc, left)?;
-        let b = made(alloc, right)?;
-        assert!(rt; come_out(&a, &b, either, both, rest)?, "{either:?}");
-        assert_eq!(rt;
-            [a.meets(&b), a.within(&b)],
-            [!both.is_empty(), rest.is_empty()]
-        );
+        let (a, b) = (made(alloc, left), made(alloc, right));
+        assert!(rt; pair_comes_out(a, b, either, both, rest)?, "{either:?}");
     }
     Ok(())
 }
@@ -128,95 +137,113 @@ fn of_list(alloc: Global, points: &[u32]) -> Result<Plane, AllocError>
     Plane::from_sorted(alloc, points)
 }
 
-/// Whether the stretches of 3, 63, 64 and 200 are found from before, within and behind them.
-fn stretches_are_found(plane: &Plane) -> bool {
-    let rows = [
+/// Whether the stretches of 3, 63, 64 and 200 are found from before, within and after them.
+fn stretches_are_found(plane: Result<Plane, AllocError>) -> Result<bool, AllocError> {
+    let plane = plane?;
+    for (point, stretch) in [
         (0, Some(3..4)),
         (4, Some(63..65)),
         (64, Some(64..65)),
         (65, Some(200..201)),
         (201, None),
-    ];
-    for (point, stretch) in rows {
+    ] {
         if plane.stretch_from(point) != stretch {
-            return false;
+            return Ok(false);
         }
     }
-    true
+    Ok(true)
 }
 
 /// A copy of a plane without the points below 65.
-fn without_first(alloc: Global, plane: &Plane) -> Result<Plane, AllocError> {
+fn without_first(alloc: Global, plane: Result<Plane, AllocError>) -> Result<Plane, AllocError> {
+    let plane = plane?;
     let rest = plane.minus(&range(alloc, 0, 65)?)?;
     rest.copy()
+}
+
+/// Whether a plane that was made has these points and no others, in so many words and stretches.
+fn has_form(
+    plane: Result<Plane, AllocError>,
+    points: &[u32],
+    words: usize,
+    stretches: u32,
+) -> Result<bool, AllocError> {
+    let plane = plane?;
+    Ok(has_points(&plane, points) && (plane.words(), plane.stretches()) == (words, stretches))
 }
 
 #[test]
 fn lists_and_words(rt: HostRuntime) -> Result<(), AllocError> {
     let alloc = rt.alloc();
-    let plane = of_list(alloc, &[3, 63, 64, 200])?;
-    let rest = without_first(alloc, &plane)?;
-    let none = of_list(alloc, &[])?;
-    let rows: [(&Plane, &[u32], usize, u32); 3] = [
-        (&plane, &[3, 63, 64, 200], 4, 3),
-        (&rest, &[200], 1, 1),
-        (&none, &[], 0, 0),
+    let points = [3, 63, 64, 200];
+    let rest = without_first(alloc, of_list(alloc, &points));
+    let found = [
+        has_form(of_list(alloc, &points), &points, 4, 3)?,
+        has_form(rest, &[200], 1, 1)?,
+        has_form(of_list(alloc, &[]), &[], 0, 0)?,
+        stretches_are_found(of_list(alloc, &points))?,
     ];
-    for (set, points, words, stretches) in rows {
-        let found = (has_points(set, points), set.words(), set.stretches());
-        assert_eq!(rt; found, (true, words, stretches));
-    }
-    assert!(rt; stretches_are_found(&plane));
+    assert_eq!(rt; found, [true; 4]);
     Ok(())
+}
+
+/// Whether planes of the even points and of every third one that were made are sized and related as told.
+fn thirds_come_out(
+    even: Result<Plane, AllocError>,
+    third: Result<Plane, AllocError>,
+) -> Result<bool, AllocError> {
+    let even = even?;
+    let third = third?;
+    let sizes = sizes(&even, &third)?;
+    let points = [even.at(1_000_000), even.at(2_097_152)];
+    let places = [even.place_of(4_194_302), even.place_of(3)];
+    Ok(
+        [even.len(), third.len(), even.stretches()] == [2_097_152, 1_398_102, 2_097_152]
+            && sizes == [2_796_203, 699_051, 1_398_101]
+            && [even.meets(&third), even.within(&third)] == [true, false]
+            && points == [Some(2_000_000), None]
+            && places == [Some(2_097_151), None],
+    )
 }
 
 #[test]
 fn even_and_third_points(rt: HostRuntime) -> Result<(), AllocError> {
     let alloc = rt.alloc();
-    let even = every(alloc, 2)?;
-    let third = every(alloc, 3)?;
-    let counts = [even.len(), third.len(), even.stretches()];
-    assert_eq!(rt;
-        (counts, sizes(&even, &third)?),
-        (
-            [2_097_152, 1_398_102, 2_097_152],
-            [2_796_203, 699_051, 1_398_101]
-        )
-    );
-    let related = [even.meets(&third), even.within(&third)];
-    let points = [even.at(1_000_000), even.at(2_097_152)];
-    let places = [even.place_of(4_194_302), even.place_of(3)];
-    assert_eq!(rt;
-        (related, points, places),
-        (
-            [true, false],
-            [Some(2_000_000), None],
-            [Some(2_097_151), None]
-        )
-    );
+    assert!(rt; thirds_come_out(every(alloc, 2), every(alloc, 3))?);
     Ok(())
+}
+
+/// Whether the planes of all points, of the even and of the odd ones are sized and related as told.
+fn planes_come_out(all: &Plane, even: &Plane, odd: &Plane) -> Result<bool, AllocError> {
+    let related = [
+        odd.meets(even),
+        odd.within(all),
+        all.within(odd),
+        all.has(LIMIT),
+    ];
+    let sizes = sizes(odd, even)?;
+    Ok(
+        (all.len(), all.words(), all.stretches()) == (LIMIT, 65_536, 1)
+            && all.stretch_from(100) == Some(100..LIMIT)
+            && sizes == [LIMIT, 0, 2_097_152]
+            && related == [false, true, false, false],
+    )
+}
+
+/// Whether they are so for planes of all points and of the even ones that were made.
+fn all_come_out(
+    all: Result<Plane, AllocError>,
+    even: Result<Plane, AllocError>,
+) -> Result<bool, AllocError> {
+    let all = all?;
+    let even = even?;
+    let odd = all.minus(&even)?;
+    planes_come_out(&all, &even, &odd)
 }
 
 #[test]
 fn all_points(rt: HostRuntime) -> Result<(), AllocError> {
     let alloc = rt.alloc();
-    let all = range(alloc, 0, LIMIT)?;
-    let even = every(alloc, 2)?;
-    let odd = all.minus(&even)?;
-    assert_eq!(rt;
-        (all.len(), all.words(), all.stretches()),
-        (LIMIT, 65_536, 1)
-    );
-    assert!(rt; all.stretch_from(100) == Some(100..LIMIT));
-    let related = [
-        odd.meets(&even),
-        odd.within(&all),
-        all.within(&odd),
-        all.has(LIMIT),
-    ];
-    assert_eq!(rt;
-        (sizes(&odd, &even)?, related),
-        ([LIMIT, 0, 2_097_152], [false, true, false, false])
-    );
+    assert!(rt; all_come_out(range(alloc, 0, LIMIT), every(alloc, 2))?);
     Ok(())
 }

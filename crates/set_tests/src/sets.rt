@@ -43,6 +43,20 @@ fn come_out(
     Ok(union && meet && minus)
 }
 
+/// Whether two sets that were made are related as these points tell, and their union, meet and difference have them.
+fn pair_comes_out(
+    a: Result<PointSet, AllocError>,
+    b: Result<PointSet, AllocError>,
+    either: &[u32],
+    both: &[u32],
+    rest: &[u32],
+) -> Result<bool, AllocError> {
+    let a = a?;
+    let b = b?;
+    let related = [a.meets(&b), a.within(&b)] == [!both.is_empty(), rest.is_empty()];
+    Ok(come_out(&a, &b, either, both, rest)? && related)
+}
+
 /// How many points a set that was made has.
 fn size(made: Result<PointSet, AllocError>) -> Result<u32, AllocError> {
     Ok(made?.len())
@@ -93,30 +107,35 @@ fn small_sets(rt: HostRuntime) -> Result<(), AllocError> {
         ),
     ];
     for (left, right, either, both, rest) in rows {
-        let a = made(alloc, left)?;
-        let b = made(alloc, right)?;
-        assert!(rt; come_out(&a, &b, either, both, rest)?, "{either:?}");
-        assert_eq!(rt;
-            [a.meets(&b), a.within(&b)],
-            [!both.is_empty(), rest.is_empty()]
-        );
+        let (a, b) = (made(alloc, left), made(alloc, right));
+        assert!(rt; pair_comes_out(a, b, either, both, rest)?, "{either:?}");
     }
     Ok(())
+}
+
+/// Whether the set of all points and one of none that were made have their sizes, their last points and their places.
+fn edges_come_out(
+    all: Result<PointSet, AllocError>,
+    none: Result<PointSet, AllocError>,
+) -> Result<bool, AllocError> {
+    let all = all?;
+    let none = none?;
+    let points = [all.at(4_194_303), all.at(4_194_304), none.at(0)];
+    let places = [all.place_of(4_194_303), all.place_of(4_194_304)];
+    let related = [all.has(4_194_304), none.within(&all)];
+    Ok(
+        [all.len(), none.len()] == [4_194_304, 0]
+            && points == [Some(4_194_303), None, None]
+            && places == [Some(4_194_303), None]
+            && related == [false, true],
+    )
 }
 
 #[test]
 fn edges(rt: HostRuntime) -> Result<(), AllocError> {
     let alloc = rt.alloc();
-    let all = made(alloc, &[(0, POINT_LIMIT)])?;
-    let none = made(alloc, &[(5, 2)])?;
-    assert_eq!(rt; [all.len(), none.len()], [4_194_304, 0]);
-    let points = [all.at(4_194_303), all.at(4_194_304), none.at(0)];
-    let places = [all.place_of(4_194_303), all.place_of(4_194_304)];
-    assert_eq!(rt;
-        (points, places),
-        ([Some(4_194_303), None, None], [Some(4_194_303), None])
-    );
-    assert_eq!(rt; [all.has(4_194_304), none.within(&all)], [false, true]);
+    let all = made(alloc, &[(0, POINT_LIMIT)]);
+    assert!(rt; edges_come_out(all, made(alloc, &[(5, 2)]))?);
     Ok(())
 }
 
@@ -131,8 +150,8 @@ fn sizes(alloc: Global, points: &[u32]) -> Result<(u32, u32), AllocError>
 #[test]
 fn lists_are_held_and_copied(rt: HostRuntime) -> Result<(), AllocError> {
     let alloc = rt.alloc();
-    assert_eq!(rt; sizes(alloc, &[])?, (0, 0));
-    assert_eq!(rt; sizes(alloc, &[3, 4, 5, 9])?, (4, 4));
+    let found = [sizes(alloc, &[])?, sizes(alloc, &[3, 4, 5, 9])?];
+    assert_eq!(rt; found, [(0, 0), (4, 4)]);
     Ok(())
 }
 
@@ -172,22 +191,45 @@ fn run_sizes(all: &PointSet, even: &PointSet, odd: &PointSet) -> Result<[u32; 4]
     Ok([copied, odd.len(), together, meet])
 }
 
+/// The set of the even points.
+fn even_points(alloc: Global) -> Result<PointSet, AllocError> {
+    let points = evens(alloc)?;
+    PointSet::from_sorted(alloc, points.as_slice())
+}
+
+/// Whether the sets of all points, of the even and of the odd ones are related and sized as told.
+fn runs_come_out(all: &PointSet, even: &PointSet, odd: &PointSet) -> Result<bool, AllocError> {
+    let related = [even.meets(odd), odd.within(all), all.within(odd)];
+    let sizes = run_sizes(all, even, odd)?;
+    Ok(
+        related == [false, true, false]
+            && sizes == [2_097_152, 2_097_152, 4_194_304, 2_097_152]
+            && halves_are_places(even, odd),
+    )
+}
+
+/// Whether they are so for sets of all points and of the even ones that were made.
+fn halves_come_out(
+    all: Result<PointSet, AllocError>,
+    even: Result<PointSet, AllocError>,
+) -> Result<bool, AllocError> {
+    let all = all?;
+    let even = even?;
+    let odd = all.minus(&even)?;
+    runs_come_out(&all, &even, &odd)
+}
+
 #[test]
 fn two_million_runs(rt: HostRuntime) -> Result<(), AllocError> {
     let alloc = rt.alloc();
-    let even = PointSet::from_sorted(alloc, evens(alloc)?.as_slice())?;
-    let all = made(alloc, &[(0, POINT_LIMIT)])?;
-    let odd = all.minus(&even)?;
-    let related = [even.meets(&odd), odd.within(&all), all.within(&odd)];
-    assert_eq!(rt;
-        (run_sizes(&all, &even, &odd)?, related),
-        (
-            [2_097_152, 2_097_152, 4_194_304, 2_097_152],
-            [false, true, false]
-        )
-    );
-    assert!(rt; halves_are_places(&even, &odd));
+    let all = made(alloc, &[(0, POINT_LIMIT)]);
+    assert!(rt; halves_come_out(all, even_points(alloc))?);
     Ok(())
+}
+
+/// How many words a set that was made takes.
+fn words_of(made: Result<PointSet, AllocError>) -> Result<usize, AllocError> {
+    Ok(made?.words())
 }
 
 #[test]
@@ -204,8 +246,7 @@ fn sets_take_the_fewest_words(rt: HostRuntime) -> Result<(), AllocError> {
         (&[(0, 1), (2, 3), (1, 2)], 1),
     ];
     for (ranges, words) in rows {
-        let set = made(alloc, ranges)?;
-        assert_eq!(rt; set.words(), words, "{ranges:?}");
+        assert_eq!(rt; words_of(made(alloc, ranges))?, words, "{ranges:?}");
     }
     Ok(())
 }

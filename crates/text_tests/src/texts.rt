@@ -4,7 +4,6 @@ use regent_lex::LexKind;
 use regent_reader::{ReadFault, read};
 use regent_tree::Counted;
 use std::alloc::{AllocError, Global};
-use std::test::Fail;
 
 /// What a text comes to, with the line or the count that is told.
 #[derive(Clone, Copy, Debug, PartialEq, Eq)]
@@ -521,141 +520,158 @@ fn stops_are_told(rt: HostRuntime) {
     }
 }
 
-/// The piece, as often as told.
-fn repeated(alloc: Global, piece: &str, times: u32) -> Result<String, AllocError> {
-    let mut text = String::new(alloc);
+/// Adds the piece, as often as told.
+fn push_repeated(text: &mut String, piece: &str, times: u32) -> Result<(), AllocError> {
     for _ in 0..times {
         text.push_str(piece)?;
-    }
-    Ok(text)
-}
-
-#[test]
-fn the_first_cause_is_told(rt: HostRuntime) -> Result<(), Fail> {
-    let alloc = rt.alloc();
-    let deep = repeated(alloc, "(", 65)?;
-    let deep_and_no_program = format!(in alloc; "end\n{deep}")?;
-    let deep_and_bad = format!(in alloc; "end\n{deep}\n@")?;
-    for (text, wanted) in [
-        ("", Told::NoProgram(1)),
-        ("\n--\n", Told::NoProgram(3)),
-        ("task main(", Told::NoProgram(1)),
-        ("task main()\n  y = @\nend", Told::Lex(LexKind::BadByte, 2)),
-        ("end \n\"a", Told::Lex(LexKind::Unclosed, 2)),
-        ("end\n--[[ a\n", Told::Lex(LexKind::Unclosed, 2)),
-        (
-            "end\nx = 1.5 9223372036854775808",
-            Told::Lex(LexKind::BadByte, 2),
-        ),
-        ("task a() x = 9223372036854775807 end", Told::Program),
-        (
-            "task a() x = 9223372036854775808 end",
-            Told::Lex(LexKind::NumberTooLarge, 1),
-        ),
-        (deep_and_no_program.as_str(), Told::TooDeep(2)),
-        (deep_and_bad.as_str(), Told::Lex(LexKind::BadByte, 3)),
-        (
-            "task a(p : ptr(f, a, b, c, d, e)) end\nend",
-            Told::NoProgram(2),
-        ),
-        (
-            "task a(p : ptr(f, a, b, c, d, e, wild)) var x : ptr(f, a, b, c, d, e) end",
-            Told::TooMany(Counted::Regions, 6),
-        ),
-    ] {
-        assert_eq!(rt; outcome_of(alloc, text), wanted, "{text}");
     }
     Ok(())
 }
 
-/// What a text comes to that has a piece in it as often as told, and as often what closes it.
-fn told_repeated(
+/// A text that has a piece in it as often as told, and as often what closes it.
+fn composed(
     alloc: Global,
     first: &str,
-    pieces: (&str, &str),
+    (opening, closing): (&str, &str),
     times: u32,
     last: &str,
-) -> Result<Told, Fail> {
-    let opening = repeated(alloc, pieces.0, times)?;
-    let closing = repeated(alloc, pieces.1, times)?;
-    let text = format!(in alloc; "{first}{opening}{closing}{last}")?;
+) -> Result<String, AllocError> {
+    let mut text = String::from_str(alloc, first)?;
+    push_repeated(&mut text, opening, times)?;
+    push_repeated(&mut text, closing, times)?;
+    text.push_str(last)?;
+    Ok(text)
+}
+
+/// What a text that was made comes to.
+fn outcome_made(alloc: Global, text: Result<String, AllocError>) -> Result<Told, AllocError> {
+    let text = text?;
     Ok(outcome_of(alloc, text.as_str()))
 }
 
+/// Texts, and the first cause that is told of them.
+static CAUSES: [(&str, Told); 11] = [
+    ("", Told::NoProgram(1)),
+    ("\n--\n", Told::NoProgram(3)),
+    ("task main(", Told::NoProgram(1)),
+    ("task main()\n  y = @\nend", Told::Lex(LexKind::BadByte, 2)),
+    ("end \n\"a", Told::Lex(LexKind::Unclosed, 2)),
+    ("end\n--[[ a\n", Told::Lex(LexKind::Unclosed, 2)),
+    (
+        "end\nx = 1.5 9223372036854775808",
+        Told::Lex(LexKind::BadByte, 2),
+    ),
+    ("task a() x = 9223372036854775807 end", Told::Program),
+    (
+        "task a() x = 9223372036854775808 end",
+        Told::Lex(LexKind::NumberTooLarge, 1),
+    ),
+    (
+        "task a(p : ptr(f, a, b, c, d, e)) end\nend",
+        Told::NoProgram(2),
+    ),
+    (
+        "task a(p : ptr(f, a, b, c, d, e, wild)) var x : ptr(f, a, b, c, d, e) end",
+        Told::TooMany(Counted::Regions, 6),
+    ),
+];
+
 #[test]
-fn each_limit_may_be_reached(rt: HostRuntime) -> Result<(), Fail> {
+fn the_first_cause_is_told(rt: HostRuntime) {
+    for (text, wanted) in &CAUSES {
+        assert_eq!(rt; outcome_of(rt.alloc(), text), *wanted, "{text}");
+    }
+}
+
+#[test]
+fn what_is_too_deep_is_told_after_bad_bytes(rt: HostRuntime) -> Result<(), AllocError> {
     let alloc = rt.alloc();
-    for (first, pieces, times, last, past) in [
-        (
-            "",
-            ("task a() end ", ""),
-            256,
-            "",
-            Told::TooMany(Counted::Tasks, 257),
-        ),
-        (
-            "",
-            ("fspace f { } ", ""),
-            256,
-            "",
-            Told::TooMany(Counted::Spaces, 257),
-        ),
-        (
-            "fspace f { ",
-            ("x : int, ", ""),
-            16,
-            "}",
-            Told::TooMany(Counted::Fields, 17),
-        ),
-        (
-            "task a(b : int",
-            (", b : int", ""),
-            15,
-            ") end",
-            Told::TooMany(Counted::Parameters, 17),
-        ),
-        (
-            "fspace f(b : int",
-            (", b : int", ""),
-            15,
-            ") { }",
-            Told::TooMany(Counted::Parameters, 17),
-        ),
-        (
-            "task a(p : ptr(f",
-            (", r", ""),
-            4,
-            ")) end",
-            Told::TooMany(Counted::Regions, 5),
-        ),
-        (
-            "task ",
-            ("a", ""),
-            64,
-            "() end",
-            Told::Lex(LexKind::NameTooLong, 1),
-        ),
-        ("task a() ", ("f(", ")"), 64, " end", Told::TooDeep(1)),
-        ("task a() ", ("do ", "end "), 64, "end", Told::TooDeep(1)),
-        ("task a() end", (" ", ""), 1_048_564, "", Told::TooLong),
-        (
-            "task main() ",
-            ("x = f(1) + 2 ", ""),
-            80_658,
-            "end",
-            Told::TooLong,
-        ),
+    for (last, wanted) in [
+        ("", Told::TooDeep(2)),
+        ("\n@", Told::Lex(LexKind::BadByte, 3)),
     ] {
-        assert_eq!(rt;
-            told_repeated(alloc, first, pieces, times, last)?,
-            Told::Program,
-            "{first}"
-        );
-        assert_eq!(rt;
-            told_repeated(alloc, first, pieces, times + 1, last)?,
-            past,
-            "{first}"
-        );
+        let text = composed(alloc, "end\n", ("(", ""), 65, last);
+        assert_eq!(rt; outcome_made(alloc, text)?, wanted, "{last}");
+    }
+    Ok(())
+}
+
+/// The first part of a text, a piece that stands in it as often as told and what closes it, and
+/// the last part; that is a program, and once more comes to this.
+static LIMITS: [(&str, (&str, &str), u32, &str, Told); 11] = [
+    (
+        "",
+        ("task a() end ", ""),
+        256,
+        "",
+        Told::TooMany(Counted::Tasks, 257),
+    ),
+    (
+        "",
+        ("fspace f { } ", ""),
+        256,
+        "",
+        Told::TooMany(Counted::Spaces, 257),
+    ),
+    (
+        "fspace f { ",
+        ("x : int, ", ""),
+        16,
+        "}",
+        Told::TooMany(Counted::Fields, 17),
+    ),
+    (
+        "task a(b : int",
+        (", b : int", ""),
+        15,
+        ") end",
+        Told::TooMany(Counted::Parameters, 17),
+    ),
+    (
+        "fspace f(b : int",
+        (", b : int", ""),
+        15,
+        ") { }",
+        Told::TooMany(Counted::Parameters, 17),
+    ),
+    (
+        "task a(p : ptr(f",
+        (", r", ""),
+        4,
+        ")) end",
+        Told::TooMany(Counted::Regions, 5),
+    ),
+    (
+        "task ",
+        ("a", ""),
+        64,
+        "() end",
+        Told::Lex(LexKind::NameTooLong, 1),
+    ),
+    ("task a() ", ("f(", ")"), 64, " end", Told::TooDeep(1)),
+    ("task a() ", ("do ", "end "), 64, "end", Told::TooDeep(1)),
+    ("task a() end", (" ", ""), 1_048_564, "", Told::TooLong),
+    (
+        "task main() ",
+        ("x = f(1) + 2 ", ""),
+        80_658,
+        "end",
+        Told::TooLong,
+    ),
+];
+
+#[test]
+fn each_limit_may_be_reached(rt: HostRuntime) -> Result<(), AllocError> {
+    let alloc = rt.alloc();
+    for (first, pieces, times, last, past) in &LIMITS {
+        let found = [
+            outcome_made(alloc, composed(alloc, first, *pieces, *times, last))?,
+            outcome_made(
+                alloc,
+                composed(alloc, first, *pieces, times.saturating_add(1), last),
+            )?,
+        ];
+        assert_eq!(rt; found, [Told::Program, *past], "{first}");
     }
     Ok(())
 }

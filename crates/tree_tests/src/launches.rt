@@ -143,27 +143,39 @@ fn shapes_with_memory_at_hand(rt: HostRuntime) -> Result<(), Fail> {
     Ok(())
 }
 
-fn calls_are_listed(alloc: Global) -> Result<bool, AllocError> {
-    let calls = points_of(alloc, 2, &[LaunchArg::Child(0), LaunchArg::Keep(2)])?;
-    let first = [PointArg::Child { slot: 0, colour: 0 }, PointArg::Keep(2)];
-    let second = [PointArg::Child { slot: 0, colour: 1 }, PointArg::Keep(2)];
-    Ok(
-        calls.len() == 2
-            && calls[0].as_slice() == first.as_slice()
-            && calls[1].as_slice() == second.as_slice(),
-    )
-}
-
-fn many_calls_are_listed(alloc: Global) -> Result<bool, AllocError> {
-    let calls = points_of(alloc, 65_536, &[LaunchArg::Point, LaunchArg::Number(-7)])?;
-    let last = [PointArg::Number(65_535), PointArg::Number(-7)];
-    Ok(calls.len() == 65_536 && calls[65_535].as_slice() == last.as_slice())
+/// Whether a launch with these arguments makes so many calls, and the one at a place has these.
+fn are_listed(
+    alloc: Global,
+    count: u32,
+    args: &[LaunchArg],
+    place: usize,
+    expected: &[PointArg],
+) -> Result<bool, AllocError> {
+    let calls = points_of(alloc, count, args)?;
+    let Some(call) = calls.get(place) else {
+        return Ok(count == 0 && calls.is_empty());
+    };
+    Ok(calls.len() == count as usize && call.as_slice() == expected)
 }
 
 #[test]
 fn calls_with_memory_at_hand(rt: HostRuntime) -> Result<(), Fail> {
-    assert!(rt; calls_are_listed(rt.alloc())?);
-    assert!(rt; many_calls_are_listed(rt.alloc())?);
-    assert!(rt; points_of(rt.alloc(), 0, &[LaunchArg::Point])?.is_empty());
+    let pair = [LaunchArg::Child(0), LaunchArg::Keep(2)];
+    let first = [PointArg::Child { slot: 0, colour: 0 }, PointArg::Keep(2)];
+    let second = [PointArg::Child { slot: 0, colour: 1 }, PointArg::Keep(2)];
+    let many = [LaunchArg::Point, LaunchArg::Number(-7)];
+    let last = [PointArg::Number(65_535), PointArg::Number(-7)];
+    let rows: [(u32, &[LaunchArg], usize, &[PointArg]); 4] = [
+        (2, &pair, 0, &first),
+        (2, &pair, 1, &second),
+        (65_536, &many, 65_535, &last),
+        (0, &[LaunchArg::Point], 0, &[]),
+    ];
+    for (count, args, place, expected) in rows {
+        assert!(rt;
+            are_listed(rt.alloc(), count, args, place, expected)?,
+            "{count} {place}"
+        );
+    }
     Ok(())
 }

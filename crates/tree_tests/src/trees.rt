@@ -1,13 +1,14 @@
 ghost use Rattle.std.specs.Prelude.{◌≡◌, ◌≤◌, IfOk, IfSome, length};
 ghost use Rattle.region_tree.specs.Needs.{AreNeeds};
 ghost use Rattle.region_tree.specs.Rows.{NeedRows, TreeRows};
-ghost use Rattle.region_tree.specs.Trees.{IsRegion, root_at};
+ghost use Rattle.region_tree.specs.Trees.{IsNode, IsPartition, IsRegion, root_at};
 
 use lane_kernels::{Mode, Op};
 use plain_values::Sequence;
 use point_sets::{POINT_LIMIT, PointSet};
 use region_tree::{Need, Needs, Node, Piece, RootId, Tree, TreeFault, interferes, within};
 use std::alloc::{AllocError, Global};
+use std::process::Abort;
 use std::test::Fail;
 
 const SUM: Mode = Mode::Reduce(Op::Sum);
@@ -83,34 +84,71 @@ fn uses_of_each_kind(alloc: Global) -> Result<Vec<(u8, Mode)>, AllocError> {
     Ok(uses)
 }
 
+/// Whether needs have parts of so many points and with these modes at a field of a root.
+fn have_parts(
+    tree: &Tree,
+    needs: &Needs,
+    root: RootId,
+    field: u8,
+    expected: &[(u32, Mode)],
+) -> Result<bool, AllocError>
+    requires { AreNeeds tree.now needs.now.items }
+{
+    let parts = needs.part(tree, root, field)?;
+    let mut are_well = parts.len() == expected.len();
+    for ((points, mode), want) in parts.iter().zip(expected) {
+        are_well = are_well && (points.len(), *mode) == *want;
+    }
+    Ok(are_well)
+}
+
 #[test]
 fn a_read_and_a_reduction_join_to_a_write(rt: HostRuntime) -> Result<(), Fail> {
     let alloc = rt.alloc();
-    let (tree, root, region) = small_tree(alloc)?;
     let uses = uses_of_each_kind(alloc)?;
+    let (tree, root, region) = small_tree(alloc)?;
     let needs = needs_of(alloc, &tree, root, region, uses.as_slice())?;
-    for (field, mode, want) in [
-        (0, Mode::Write, 1),
-        (1, LEAST, 1),
-        (2, Mode::Read, 1),
-        (3, Mode::Write, 1),
-        (4, SUM, 1),
-        (5, Mode::Reduce(Op::Product), 1),
-        (6, Mode::Reduce(Op::Greatest), 1),
-        (7, Mode::Write, 1),
-        (8, LEAST, 1),
-        (9, Mode::Read, 0),
-    ] {
-        let parts = needs.part(&tree, root, field)?;
-        assert_eq!(rt; parts.len(), want);
-        for (points, joined) in &parts {
-            assert_eq!(rt; (points.len(), *joined), (3, mode));
-        }
+    let rows: [(u8, &[(u32, Mode)]); 10] = [
+        (0, &[(3, Mode::Write)]),
+        (1, &[(3, LEAST)]),
+        (2, &[(3, Mode::Read)]),
+        (3, &[(3, Mode::Write)]),
+        (4, &[(3, SUM)]),
+        (5, &[(3, Mode::Reduce(Op::Product))]),
+        (6, &[(3, Mode::Reduce(Op::Greatest))]),
+        (7, &[(3, Mode::Write)]),
+        (8, &[(3, LEAST)]),
+        (9, &[]),
+    ];
+    for (field, expected) in rows {
+        assert!(rt;
+            have_parts(&tree, &needs, root, field, expected)?,
+            "{field}"
+        );
     }
     Ok(())
 }
 
 /// Whether two uses of one region interfere, and whether the first is within the second.
+fn related(
+    alloc: Global,
+    tree: &Tree,
+    root: RootId,
+    region: Node,
+    one: (u8, Mode),
+    other: (u8, Mode),
+) -> Result<(bool, bool), AllocError>
+    requires region { IsRegion tree.now region.0 }
+    requires root { root.0 ≡ root_at tree.now region.0 }
+{
+    let ours = needs_of(alloc, tree, root, region, &[one])?;
+    let theirs = needs_of(alloc, tree, root, region, &[other])?;
+    Ok((
+        interferes(tree, &ours, &theirs),
+        within(tree, &ours, &theirs),
+    ))
+}
+
 #[test]
 fn uses_of_one_region(rt: HostRuntime) -> Result<(), Fail> {
     let alloc = rt.alloc();
@@ -126,15 +164,8 @@ fn uses_of_one_region(rt: HostRuntime) -> Result<(), Fail> {
         ((0, SUM), (0, LEAST), true, false),
     ];
     for (one, other, interfere, inside) in rows {
-        let ours = needs_of(alloc, &tree, root, region, &[one])?;
-        let theirs = needs_of(alloc, &tree, root, region, &[other])?;
-        assert_eq!(rt;
-            (
-                interferes(&tree, &ours, &theirs),
-                within(&tree, &ours, &theirs)
-            ),
-            (interfere, inside)
-        );
+        let found = related(alloc, &tree, root, region, one, other)?;
+        assert_eq!(rt; found, (interfere, inside));
     }
     Ok(())
 }
@@ -201,12 +232,8 @@ fn parts_at_a_second_root(rt: HostRuntime) -> Result<(), Fail> {
         return Err(Fail::new("a child is missing"));
     };
     let needs = a_read_and_a_sum(alloc, &tree, first, second)?;
-    let parts = needs.part(&tree, RootId(1), 0)?;
-    let told = [(4_194_301, Mode::Read), (3, Mode::Write)];
-    assert_eq!(rt; parts.len(), 2);
-    for ((points, mode), want) in parts.iter().zip(told) {
-        assert_eq!(rt; (points.len(), *mode), want);
-    }
+    let expected = [(4_194_301, Mode::Read), (3, Mode::Write)];
+    assert!(rt; have_parts(&tree, &needs, RootId(1), 0, &expected)?);
     Ok(())
 }
 
@@ -219,6 +246,19 @@ fn told(answer: Result<Node, TreeFault>) -> Result<Option<(u32, Option<u32>, u32
         Err(TreeFault::NotDisjoint { a, b, point }) => Ok(Some((a, Some(b), point))),
         Err(TreeFault::Memory(error)) => Err(error),
     }
+}
+
+/// What is told of a partition of four points into the sets of some ranges.
+fn parted(
+    rt: &impl Abort,
+    alloc: Global,
+    ranges: &[(u32, u32)],
+    disjoint: bool,
+) -> Result<Option<(u32, Option<u32>, u32)>, AllocError> {
+    let sets = sets_of(alloc, ranges)?;
+    assert!(rt; sets.len() < 10);
+    let (mut tree, region) = two_roots(alloc, 4)?;
+    told(tree.add_partition(region, sets, disjoint))
 }
 
 #[test]
@@ -236,11 +276,8 @@ fn partitions_are_made_or_refused(rt: HostRuntime) -> Result<(), Fail> {
         (&[(0, 3), (2, 5)], false, Some((1, None, 4))),
     ];
     for (ranges, disjoint, want) in rows {
-        let (mut tree, region) = two_roots(alloc, 4)?;
-        let sets = sets_of(alloc, ranges)?;
-        assert!(rt; sets.len() < 10);
-        let answer = tree.add_partition(region, sets, disjoint);
-        assert_eq!(rt; told(answer)?, want, "{ranges:?} {disjoint}");
+        let answer = parted(&rt, alloc, ranges, disjoint)?;
+        assert_eq!(rt; answer, want, "{ranges:?} {disjoint}");
     }
     Ok(())
 }
@@ -254,14 +291,19 @@ fn sets_of(alloc: Global, ranges: &[(u32, u32)]) -> Result<Vec<PointSet>, AllocE
     Ok(sets)
 }
 
+/// Whether a root that is added, of up to two points, has the next numbers.
+fn is_next(alloc: Global, tree: &mut Tree, number: u32) -> Result<bool, AllocError> {
+    let next = tree.next();
+    let points = PointSet::range(alloc, 0, number % 3)?;
+    Ok(tree.add_root(points)? == next)
+}
+
 #[test]
 fn ten_thousand_roots(rt: HostRuntime) -> Result<(), Fail> {
     let alloc = rt.alloc();
     let mut tree = Tree::new(alloc)?;
     for number in 0..10_000 {
-        let next = tree.next();
-        let points = PointSet::range(alloc, 0, number % 3)?;
-        assert_eq!(rt; tree.add_root(points)?, next);
+        assert!(rt; is_next(alloc, &mut tree, number)?, "{number}");
     }
     assert_eq!(rt; tree.next(), (RootId(10_000), Node(10_000)));
     Ok(())
@@ -290,9 +332,8 @@ fn a_tree_of_depth_20(rt: HostRuntime) -> Result<(), Fail> {
         };
         region = child;
     }
-    assert_eq!(rt; tree.next(), (RootId(1), Node(41)));
-    assert_eq!(rt; tree.root_of(region), root);
-    assert_eq!(rt; tree.set(region).len(), 3);
+    let last = (tree.root_of(region), tree.set(region).len());
+    assert_eq!(rt; (tree.next(), last), ((RootId(1), Node(41)), (root, 3)));
     Ok(())
 }
 
@@ -308,28 +349,36 @@ fn every_fourth(alloc: Global, colours: u32) -> Result<Vec<PointSet>, AllocError
     Ok(sets)
 }
 
+/// Whether a tree's last partition has 65536 children in order, which are told apart where it is disjoint.
+fn children_are_in_order(tree: &Tree, region: Node, partition: Node, disjoint: bool) -> bool
+    requires region { IsNode tree.now region.0 }
+    requires partition { IsPartition tree.now partition.0 }
+{
+    let (Some(first), Some(last)) = (tree.child(partition, 0), tree.child(partition, 65_535)) else {
+        return false;
+    };
+    let separated = [
+        tree.separated(first, last),
+        tree.separated(first, first),
+        tree.separated(region, last),
+    ];
+    tree.next() == (RootId(2), Node(65_539))
+        && tree.child(partition, 65_536) == None
+        && last == Node(65_538)
+        && tree.set(last).at(0) == Some(262_140)
+        && separated == [disjoint, false, false]
+}
+
 #[test]
 fn a_partition_of_65536_sets(rt: HostRuntime) -> Result<(), Fail> {
     let alloc = rt.alloc();
     for disjoint in [true, false] {
-        let (mut tree, region) = two_roots(alloc, 262_144)?;
         let sets = every_fourth(alloc, 65_536)?;
+        let (mut tree, region) = two_roots(alloc, 262_144)?;
         let partition = tree.add_partition(region, sets, disjoint)?;
-        assert_eq!(rt; tree.next(), (RootId(2), Node(65_539)));
-        let (Some(first), Some(last)) = (tree.child(partition, 0), tree.child(partition, 65_535))
-        else {
-            return Err(Fail::new("a child is missing"));
-        };
-        assert_eq!(rt; tree.child(partition, 65_536), None);
-        assert_eq!(rt; last, Node(65_538));
-        assert_eq!(rt; tree.set(last).at(0), Some(262_140));
-        assert_eq!(rt;
-            (
-                tree.separated(first, last),
-                tree.separated(first, first),
-                tree.separated(region, last)
-            ),
-            (disjoint, false, false)
+        assert!(rt;
+            children_are_in_order(&tree, region, partition, disjoint),
+            "{disjoint}"
         );
     }
     Ok(())

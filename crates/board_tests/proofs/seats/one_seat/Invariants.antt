@@ -1,4 +1,4 @@
-use Rattle.board_tests.proofs.workers.one_seat.Given as goal
+use Rattle.board_tests.proofs.seats.one_seat.Given as goal
 
 abbrev pub ghosts-by_one_seat-L-Ledger : goal.ghosts-by_one_seat-L-Ledger
 ghosts-by_one_seat-L-Ledger g a = record { name = a.steps.name; parts = a.steps.parts }
