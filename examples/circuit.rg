@@ -1,18 +1,30 @@
+-- Charge that flows through a circuit whose wires lead from piece to piece.
+-- ./regent run examples/circuit.rg 8 2 2
+-- prints: 384 0 64 256 0 256 64 0
+
 import "regent"
 
 fspace node { voltage : int64, charge : int64 }
 fspace wire { first : int1d, last : int1d, current : int64 }
 
 -- the current of each wire of a piece, from where it begins to where it ends
-task flow(wires : region(ispace(int1d), wire), from : region(ispace(int1d), node), to : region(ispace(int1d), node))
+task flow(
+  wires : region(ispace(int1d), wire),
+  from : region(ispace(int1d), node),
+  to : region(ispace(int1d), node)
+)
 where reads(wires.{first, last}), writes(wires.current), reads(from.voltage), reads(to.voltage) do
   for w in wires do
     w.current = (from[w.first].voltage - to[w.last].voltage) / 4
   end
 end
 
--- what flows leaves one node and reaches another one, which may belong to another piece
-task spread(wires : region(ispace(int1d), wire), from : region(ispace(int1d), node), to : region(ispace(int1d), node))
+-- the current leaves one node and reaches another, which may belong to another piece
+task spread(
+  wires : region(ispace(int1d), wire),
+  from : region(ispace(int1d), node),
+  to : region(ispace(int1d), node)
+)
 where reads(wires.{first, last, current}), reduces +(from.charge), reduces +(to.charge) do
   for w in wires do
     from[w.first].charge += -w.current
@@ -28,7 +40,7 @@ where reads(own.{voltage, charge}), writes(own.{voltage, charge}) do
   end
 end
 
--- n nodes in a ring with a chord from each to the one that is opposite; the first node has a voltage
+-- n nodes in a ring with a chord from each to its opposite; the first node has a voltage
 task main(n : int64, count : int64, rounds : int64)
   var nodes = region(ispace(int1d, n), node)
   var wires = region(ispace(int1d, 2 * n), wire)

@@ -1,3 +1,7 @@
+-- A first program: a variable, an assignment and a print.
+-- ./regent run examples/first.rg
+-- prints: 7
+
 import "regent"
 
 task main()

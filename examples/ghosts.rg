@@ -1,3 +1,7 @@
+-- A ring of cells in blocks with ghost cells: each block reads two more parts, by image.
+-- ./regent run examples/ghosts.rg 8 2 2
+-- prints: 3000 2000 500 0 0 0 500 2000
+
 import "regent"
 
 fspace cell { heat : int64, next : int64, left : int1d, right : int1d }
@@ -11,8 +15,12 @@ where writes(ring.{left, right}) do
   end
 end
 
--- the cells of a block become means of themselves and of their neighbours, which stand in two other parts: the ghosts
-task relax(own : region(ispace(int1d), cell), left : region(ispace(int1d), cell), right : region(ispace(int1d), cell))
+-- each cell of a block becomes a mean of itself and its neighbours in two other parts, the ghosts
+task relax(
+  own : region(ispace(int1d), cell),
+  left : region(ispace(int1d), cell),
+  right : region(ispace(int1d), cell)
+)
 where reads(own.{heat, left, right}), writes(own.next), reads(left.heat), reads(right.heat) do
   for x in own do
     x.next = (left[x.left].heat + 2 * x.heat + right[x.right].heat) / 4
@@ -24,7 +32,7 @@ where reads(own.next), writes(own.heat) do
   for x in own do x.heat = x.next end
 end
 
--- a ring of n cells in some blocks, of which the first cell is hot
+-- a ring of n cells in some blocks; the first cell is hot
 task main(n : int64, count : int64, rounds : int64)
   var ring = region(ispace(int1d, n), cell)
   join(ring, n)

@@ -1,3 +1,7 @@
+-- Numbers counted in bins by reductions.
+-- ./regent run --dump examples/histogram.rg 16
+-- prints: five bins, the last `4: 1, up to 15`, then the dump
+
 import "regent"
 
 fspace bin { count : int, greatest : int64 }

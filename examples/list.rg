@@ -1,10 +1,18 @@
+-- A linked list in a region: pointers in fields, insertion in order, reversal in place.
+-- ./regent run examples/list.rg 6
+-- prints: sum 15: 0 1 2 3 4 5, and back: 5 4 3 2 1 0
+
 import "regent"
 
--- an element of a list leads on to another one, or to none; where it may lead, a use of the field space says
+-- an element of a list points to the next one, or to none; a use of the field space says
+-- into which region
 fspace node(r : region(ispace(ptr), node(wild))) { value : int64, next : ptr(node(wild), r) }
 
--- the sum and the count of what is behind an element, itself included
-task add_up(nodes : region(ispace(ptr), node(wild)), first : ptr(node(wild), nodes)) : int64
+-- the sum of the values from an element to the end of the list
+task add_up(
+  nodes : region(ispace(ptr), node(wild)),
+  first : ptr(node(wild), nodes)
+) : int64
 where reads(nodes) do
   var sum : int64 = 0
   var at = first
@@ -18,7 +26,7 @@ end
 task main(n : int64)
   var nodes = region(ispace(ptr, n), node(wild))
   fill(nodes.next, null(ptr(node(wild), nodes)))
-  -- each element is put where it belongs in a list that rises
+  -- each element is inserted where it belongs in a sorted list
   var first = null(ptr(node(wild), nodes))
   for x in nodes do
     x.value = (7 * int64(x) + 3) % n
@@ -46,7 +54,7 @@ task main(n : int64)
     end
   end
   regentlib.c.printf("sum %lld:", add_up(nodes, first))
-  -- it is turned round in place, and shown as it goes
+  -- the list is printed, and reversed in place
   var back = null(ptr(node(wild), nodes))
   while not isnull(first) do
     regentlib.c.printf(" %lld", first.value)

@@ -1,13 +1,21 @@
+-- Triangles whose corners are pointers into a region; pieces reduce into the corners they reach.
+-- ./regent run examples/mesh.rg 2 3
+-- prints: 1 3 2 3 6 3 2 3 1
+
 import "regent"
 
 fspace corner { x : int64, y : int64, load : int64 }
--- a triangle leads to its corners; into which region, a use of the field space says
+-- a triangle points to its corners; a use of the field space says into which region
 fspace triangle(corners : region(ispace(int1d), corner)) {
   a : int1d(corner, corners), b : int1d(corner, corners), c : int1d(corner, corners)
 }
 
 -- a square of n by n squares, each of which is cut into two triangles
-task lay_out(corners : region(ispace(int1d), corner), triangles : region(ispace(int1d), triangle(corners)), n : int64)
+task lay_out(
+  corners : region(ispace(int1d), corner),
+  triangles : region(ispace(int1d), triangle(corners)),
+  n : int64
+)
 where writes(corners.{x, y}), writes(triangles.{a, b, c}) do
   for k in corners do
     k.x = int64(k) % (n + 1)
@@ -28,8 +36,12 @@ where writes(corners.{x, y}), writes(triangles.{a, b, c}) do
   end
 end
 
--- each triangle loads its corners with twice its area; the task is given the corners that its own triangles reach, and no others
-task load(own : region(ispace(int1d), triangle(wild)), reached : region(ispace(int1d), corner))
+-- each triangle loads its corners with twice its area; the task takes only the corners that its
+-- triangles reach
+task load(
+  own : region(ispace(int1d), triangle(wild)),
+  reached : region(ispace(int1d), corner)
+)
 where reads(own), reads(reached.{x, y}), reduces +(reached.load) do
   for t in own do
     var a = dynamic_cast(int1d(corner, reached), t.a)

@@ -1,3 +1,7 @@
+-- How many items come before each one, by loops over pointers.
+-- ./regent run examples/ranks.rg 6
+-- prints: 0 1 2 2 4 4
+
 import "regent"
 
 fspace item { value : int64, rank : int }

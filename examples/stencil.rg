@@ -1,3 +1,7 @@
+-- A ring of cells relaxed in one task.
+-- ./regent run examples/stencil.rg 2
+-- prints: 3000 2000 500 0 0 0 500 2000
+
 import "regent"
 
 fspace cell { now : int64, next : int64 }

@@ -1,3 +1,7 @@
+-- How many steps a number takes to 1: numbers and loops alone.
+-- ./regent run examples/steps.rg 27
+-- prints: 111
+
 import "regent"
 
 -- how many steps it takes from n to 1
