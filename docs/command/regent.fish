@@ -1,0 +1,15 @@
+# Completion of regent's words for fish.
+complete -c regent -f
+complete -c regent -n __fish_use_subcommand -a run -d "checks and runs the program in FILE; each NUMBER is an argument of its first task"
+complete -c regent -n "__fish_seen_subcommand_from run" -a "(__fish_complete_suffix .rg)"
+complete -c regent -n __fish_use_subcommand -a check -d "checks the program in FILE and prints accepted; runs nothing"
+complete -c regent -n "__fish_seen_subcommand_from check" -a "(__fish_complete_suffix .rg)"
+complete -c regent -n __fish_use_subcommand -a sample -d "runs a built-in program, a ring of 4,096 cells in each of N colours, from 1 to 64"
+complete -c regent -n __fish_use_subcommand -a build -d "proves and builds the program from these sources"
+complete -c regent -n __fish_use_subcommand -a install -d "copies the program, the manual page and the completions to DIR"
+complete -c regent -n "__fish_seen_subcommand_from install" -a "(__fish_complete_directories)"
+complete -c regent -n __fish_use_subcommand -a help -d "prints this page"
+complete -c regent -n "__fish_seen_subcommand_from run sample" -l workers -x -d "run the tasks by N threads, from 0 to 64; 4 unless given; 0 runs them in order"
+complete -c regent -n "__fish_seen_subcommand_from run" -l turns -x -d "the fuel of each call of a task: at most N turns, which are rounds of loops and calls; 1,000,000 unless given"
+complete -c regent -n "__fish_seen_subcommand_from run" -l dump -d "after the output, print what the regions of the first task hold at the end"
+complete -c regent -n "__fish_seen_subcommand_from run" -l trace -d "print the trace of the run to standard error"
