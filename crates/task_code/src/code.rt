@@ -28,14 +28,14 @@ pub struct NeedCode {
 }
 
 /// An instruction, with the line on which the statement begins that it belongs to.
-#[derive(Debug, PartialEq, Eq, Drop)]
+#[derive(PartialEq, Eq, Drop)]
 pub struct Line {
     pub instr: Instr,
     pub line: u32,
 }
 
 /// A task. Its parameters have the first of its slots, in order.
-#[derive(Debug, PartialEq, Eq, Drop)]
+#[derive(PartialEq, Eq, Drop)]
 pub struct TaskCode {
     pub params: u8,
     pub result: bool,
@@ -45,7 +45,7 @@ pub struct TaskCode {
 }
 
 /// The tasks and field spaces of a program, in the order of the text, and the task that runs first.
-#[derive(Debug, PartialEq, Eq, Drop)]
+#[derive(PartialEq, Eq, Drop)]
 pub struct Code {
     pub tasks: Sequence<TaskCode>,
     pub spaces: Sequence<SpaceCode>,

@@ -20,7 +20,7 @@ pub enum PrintPart {
 /// its position plus its point; where an instruction looks a position up, it has a list of slots that
 /// hold regions, that of position 1 first. A truth is 1 or 0. Where two operands are popped, the right
 /// one is popped first.
-#[derive(Debug, PartialEq, Eq, Drop)]
+#[derive(PartialEq, Eq, Drop)]
 pub enum Instr {
     /// Pushes a number.
     Num(i64),
