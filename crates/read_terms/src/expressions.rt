@@ -2,10 +2,10 @@
 
 ghost use Rattle.std.specs.Prelude.{◌≡◌, ◌<◌, ◌∷◌, [], IfOk, length, map};
 ghost use Rattle.regent_grammar.specs.Expressions.{expression, is_operator, is_sign, link, prefix};
-ghost use Rattle.regent_grammar.specs.Expressions.{primary, a_sign, an_operator, begins_step, step, steps};
+ghost use Rattle.regent_grammar.specs.Expressions.{primary, a_sign, an_operator, begins_step, field_step, place_step, step, steps};
 ghost use Rattle.regent_grammar.specs.Reading.{read, reading};
-ghost use Rattle.regent_grammar.specs.Rules.{many, ◌⊳◌};
-ghost use Rattle.regent_grammar.specs.Singles.{a_mark, arguments};
+ghost use Rattle.regent_grammar.specs.Rules.{gives, many, when◌then◌else◌, ◌⊳◌};
+ghost use Rattle.regent_grammar.specs.Singles.{a_mark, arguments, separated};
 ghost use Rattle.regent_grammar.specs.Symbols.{comes, is_mark};
 ghost use Rattle.regent_lex.specs.declared.tables.Mark.TheVariants as mark;
 ghost use Rattle.read_terms.specs.Gives.{Gives, with_front};
@@ -19,7 +19,7 @@ use crate::heads::{Head, primary_head};
 use crate::nodes::{called, chained, prefixed, stepped, wrapped};
 use crate::operators::{Level, operator_at, sign_of, tighter};
 use crate::stop::Stop;
-use crate::take::{is_mark, take_mark, take_name};
+use crate::take::{before_mark, is_mark, take_mark, take_name, with_first};
 use plain_values::Sequence;
 use regent_grammar::{Mark, Terminal};
 use regent_tree::{Expr, Link, Operator, Sign, Step};
@@ -121,7 +121,8 @@ fn chain(
         None => prefix(alloc, terminals),
         Some(members) => {
             let (first, rest) = chain(alloc, members, terminals)?;
-            let (links, rest) = links(alloc, level, members, rest)?;
+            let links = links(alloc, level, members, rest);
+            let ((first, links), rest) = with_first(first, links)?;
             Ok((chained(alloc, first, links)?, rest))
         }
     }
@@ -206,14 +207,12 @@ fn primary(alloc: Global, terminals: &[Terminal]) -> Result<(Expr, &[Terminal]),
 fn closed(alloc: Global, terminals: &[Terminal]) -> Result<(Expr, &[Terminal]), Stop<'_>>
     ensures { Gives (λ x. read (expression_of x.0) x.1.now) result (reading closed terminals.now) }
 {
-    let (inner, rest) = expression(alloc, terminals)?;
-    let rest = take_mark(rest, Mark::Close)?;
-    Ok((inner, rest))
+    before_mark(expression(alloc, terminals), Mark::Close)
 }
 
 /// The arguments of a call, in parentheses.
 #[cycle(expression)]
-#[tactic(auto, unfolding(regent_grammar::proofs::Opening::reading, regent_grammar::specs::Singles::arguments, regent_grammar::specs::Singles::separated), using(crate::proofs::Lengths::expression_rest))]
+#[tactic(auto, unfolding(regent_grammar::proofs::Opening::reading, regent_grammar::specs::Singles::arguments))]
 pub fn arguments(
     alloc: Global,
     terminals: &[Terminal],
@@ -222,14 +221,22 @@ pub fn arguments(
         (reading (arguments expression) terminals.now) }
 {
     let rest = take_mark(terminals, Mark::Open)?;
-    if comes_mark(rest, Mark::Close) {
-        let rest = take_mark(rest, Mark::Close)?;
-        return Ok((Vec::new(alloc), rest));
+    before_mark(listed(alloc, rest), Mark::Close)
+}
+
+/// The arguments of a call, of which there may be none.
+#[cycle(expression)]
+#[tactic(auto, unfolding(regent_grammar::proofs::Opening::reading, regent_grammar::specs::Singles::separated), using(crate::proofs::Lengths::expression_rest))]
+fn listed(alloc: Global, terminals: &[Terminal]) -> Result<(Vec<Expr>, &[Terminal]), Stop<'_>>
+    ensures { Gives (λ x. read (map expression_of x.0.items) x.1.now) result
+        (reading (when comes (is_mark mark.Close) then gives [] else separated expression) terminals.now) }
+{
+    if comes_mark(terminals, Mark::Close) {
+        Ok((Vec::new(alloc), terminals))
+    } else {
+        let (first, rest) = expression(alloc, terminals)?;
+        more_arguments(alloc, vec![in alloc; first]?, rest)
     }
-    let (first, rest) = expression(alloc, rest)?;
-    let (args, rest) = more_arguments(alloc, vec![in alloc; first]?, rest)?;
-    let rest = take_mark(rest, Mark::Close)?;
-    Ok((args, rest))
 }
 
 /// Further arguments, each behind a comma.
@@ -280,18 +287,34 @@ pub fn steps(alloc: Global, terminals: &[Terminal]) -> Result<(Vec<Step>, &[Term
 
 /// A step of an access.
 #[cycle(expression)]
-#[tactic(auto, unfolding(regent_grammar::proofs::Opening::reading, regent_grammar::specs::Expressions::step, regent_grammar::specs::Expressions::field_step, regent_grammar::specs::Expressions::place_step))]
+#[tactic(auto, unfolding(regent_grammar::proofs::Opening::reading, regent_grammar::specs::Expressions::step))]
 fn step(alloc: Global, terminals: &[Terminal]) -> Result<(Step, &[Terminal]), Stop<'_>>
     ensures { Gives (λ x. read (stepped_of x.0) x.1.now) result (reading step terminals.now) }
 {
     if comes_mark(terminals, Mark::Dot) {
-        let rest = take_mark(terminals, Mark::Dot)?;
-        let (field, rest) = take_name(alloc, rest)?;
-        Ok((Step::Field(field), rest))
+        field_step(alloc, terminals)
     } else {
-        let rest = take_mark(terminals, Mark::OpenSquare)?;
-        let (place, rest) = expression(alloc, rest)?;
-        let rest = take_mark(rest, Mark::CloseSquare)?;
-        Ok((Step::At(place), rest))
+        place_step(alloc, terminals)
     }
+}
+
+/// A field behind a dot.
+#[tactic(auto, unfolding(regent_grammar::proofs::Opening::reading, regent_grammar::specs::Expressions::field_step))]
+fn field_step(alloc: Global, terminals: &[Terminal]) -> Result<(Step, &[Terminal]), Stop<'_>>
+    ensures { Gives (λ x. read (stepped_of x.0) x.1.now) result (reading field_step terminals.now) }
+{
+    let rest = take_mark(terminals, Mark::Dot)?;
+    let (field, rest) = take_name(alloc, rest)?;
+    Ok((Step::Field(field), rest))
+}
+
+/// A place in square brackets.
+#[cycle(expression)]
+#[tactic(auto, unfolding(regent_grammar::proofs::Opening::reading, regent_grammar::specs::Expressions::place_step))]
+fn place_step(alloc: Global, terminals: &[Terminal]) -> Result<(Step, &[Terminal]), Stop<'_>>
+    ensures { Gives (λ x. read (stepped_of x.0) x.1.now) result (reading place_step terminals.now) }
+{
+    let rest = take_mark(terminals, Mark::OpenSquare)?;
+    let (place, rest) = before_mark(expression(alloc, rest), Mark::CloseSquare)?;
+    Ok((Step::At(place), rest))
 }

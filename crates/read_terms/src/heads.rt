@@ -14,7 +14,7 @@ ghost use Rattle.regent_tree.specs.Plain.{expression_of};
 
 use crate::ahead::{comes_mark, comes_name_before, comes_word};
 use crate::stop::Stop;
-use crate::take::{take_mark, take_name, take_word};
+use crate::take::{before_mark, take_mark, take_name, take_opening, take_word};
 use crate::types::{kind, number, number_of, pointer};
 use regent_grammar::{Mark, Symbol, Terminal, Word};
 use regent_tree::{Expr, Kind, Name, NumberTerm, PointerTerm};
@@ -124,8 +124,7 @@ fn conversion_head(terminals: &[Terminal]) -> Result<(Head, &[Terminal]), Stop<'
     ensures same { Gives (λ x. reading (rest_of x.0) x.1.now) result (reading conversion terminals.now) }
     ensures shorter { IfOk result (λ x. length x.1.now < length terminals.now) }
 {
-    let (to, rest) = number(terminals)?;
-    let rest = take_mark(rest, Mark::Open)?;
+    let (to, rest) = before_mark(number(terminals), Mark::Open)?;
     Ok((Head::Wrapped(Wrap::Convert(to)), rest))
 }
 
@@ -136,9 +135,7 @@ fn bracketed_head(terminals: &[Terminal]) -> Result<(Head, &[Terminal]), Stop<'_
     ensures shorter { IfOk result (λ x. length x.1.now < length terminals.now) }
 {
     let rest = take_mark(terminals, Mark::OpenSquare)?;
-    let (to, rest) = number(rest)?;
-    let rest = take_mark(rest, Mark::CloseSquare)?;
-    let rest = take_mark(rest, Mark::Open)?;
+    let (to, rest) = before_mark(before_mark(number(rest), Mark::CloseSquare), Mark::Open)?;
     Ok((Head::Wrapped(Wrap::Convert(to)), rest))
 }
 
@@ -161,8 +158,7 @@ fn null_pointer(alloc: Global, terminals: &[Terminal]) -> Result<(Head, &[Termin
 {
     let rest = take_word(terminals, Word::Null)?;
     let rest = take_mark(rest, Mark::Open)?;
-    let (pointer, rest) = pointer(alloc, rest)?;
-    let rest = take_mark(rest, Mark::Close)?;
+    let (pointer, rest) = before_mark(pointer(alloc, rest), Mark::Close)?;
     Ok((Head::Whole(Expr::Null(pointer)), rest))
 }
 
@@ -172,10 +168,8 @@ fn cast_head(alloc: Global, terminals: &[Terminal]) -> Result<(Head, &[Terminal]
     ensures same { Gives (λ x. reading (rest_of x.0) x.1.now) result (reading cast terminals.now) }
     ensures shorter { IfOk result (λ x. length x.1.now < length terminals.now) }
 {
-    let rest = take_word(terminals, Word::DynamicCast)?;
-    let rest = take_mark(rest, Mark::Open)?;
-    let (pointer, rest) = pointer(alloc, rest)?;
-    let rest = take_mark(rest, Mark::Comma)?;
+    let rest = take_opening(terminals, Word::DynamicCast)?;
+    let (pointer, rest) = before_mark(pointer(alloc, rest), Mark::Comma)?;
     Ok((Head::Wrapped(Wrap::Cast(pointer)), rest))
 }
 
@@ -185,10 +179,8 @@ fn space_head(terminals: &[Terminal]) -> Result<(Head, &[Terminal]), Stop<'_>>
     ensures same { Gives (λ x. reading (rest_of x.0) x.1.now) result (reading new_space terminals.now) }
     ensures shorter { IfOk result (λ x. length x.1.now < length terminals.now) }
 {
-    let rest = take_word(terminals, Word::Ispace)?;
-    let rest = take_mark(rest, Mark::Open)?;
-    let (kind, rest) = kind(rest)?;
-    let rest = take_mark(rest, Mark::Comma)?;
+    let rest = take_opening(terminals, Word::Ispace)?;
+    let (kind, rest) = before_mark(kind(rest), Mark::Comma)?;
     Ok((Head::Wrapped(Wrap::Space(kind)), rest))
 }
 

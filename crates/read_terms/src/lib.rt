@@ -19,6 +19,7 @@ pub use expressions::{arguments, expression, more_arguments, steps};
 pub use names::{fields, next_name};
 pub use stop::Stop;
 pub use take::{
-    is_mark, is_named, is_word, take_mark, take_name, take_named, take_text, take_word,
+    before_mark, before_word, is_mark, is_named, is_word, take_library, take_mark, take_name,
+    take_named, take_opening, take_text, take_word, with_first,
 };
 pub use types::{declared_type, parameter, space_use, type_term};

@@ -11,7 +11,7 @@ ghost use Rattle.read_terms.specs.Gives.{Gives, with_front};
 
 use crate::ahead::comes_mark;
 use crate::stop::Stop;
-use crate::take::{take_mark, take_name};
+use crate::take::{before_mark, take_mark, take_name};
 use plain_values::Sequence;
 use regent_grammar::{Mark, Terminal};
 use regent_tree::Name;
@@ -77,9 +77,7 @@ pub fn fields(
 {
     if comes_mark(terminals, Mark::OpenBrace) {
         let rest = take_mark(terminals, Mark::OpenBrace)?;
-        let (names, rest) = names(alloc, rest)?;
-        let rest = take_mark(rest, Mark::CloseBrace)?;
-        Ok((names, rest))
+        before_mark(names(alloc, rest), Mark::CloseBrace)
     } else {
         let (name, rest) = take_name(alloc, terminals)?;
         Ok((one_name(alloc, name)?, rest))

@@ -1,10 +1,13 @@
 //! Single terminals from the front.
 
-ghost use Rattle.std.specs.Prelude.{◌≡◌, ◌<◌, IfOk, length};
+ghost use Rattle.std.specs.Prelude.{◌≡◌, ◌<◌, Err, IfOk, IsOkAnd, MatchResult, length};
 ghost use Rattle.regent_grammar.specs.Reading.{read, reading};
+ghost use Rattle.regent_grammar.specs.Rules.{◌⊳◌};
 ghost use Rattle.regent_grammar.specs.Singles.{a_mark, a_word, name, named, text};
 ghost use Rattle.regent_grammar.specs.Symbols.{is_mark, is_named, is_word};
-ghost use Rattle.read_terms.specs.Gives.{Gives};
+ghost use Rattle.regent_lex.specs.declared.tables.Mark.TheVariants as mark;
+ghost use Rattle.regent_lex.specs.declared.tables.Word.TheVariants as word;
+ghost use Rattle.read_terms.specs.Gives.{Gives, Stopped};
 
 use crate::stop::Stop;
 use plain_values::Sequence;
@@ -75,6 +78,64 @@ pub fn take_word(terminals: &[Terminal], word: Word) -> Result<&[Terminal], Stop
     }
 }
 
+/// What comes after this word and an opening parenthesis.
+#[tactic(auto, unfolding(regent_grammar::proofs::Opening::reading))]
+pub fn take_opening(terminals: &[Terminal], word: Word) -> Result<&[Terminal], Stop<'_>>
+    ensures same { Gives (λ rest. read tt rest.now) result
+        (reading (a_word word ⊳ a_mark mark.Open) terminals.now) }
+    ensures shorter { IfOk result (λ rest. length rest.now < length terminals.now) }
+{
+    let rest = take_word(terminals, word)?;
+    take_mark(rest, Mark::Open)
+}
+
+/// What was read, with this sign behind it.
+pub fn before_mark<'a, T: Drop>(
+    so_far: Result<(T, &'a [Terminal]), Stop<'a>>,
+    mark: Mark,
+) -> Result<(T, &'a [Terminal]), Stop<'a>>
+    ensures { MatchResult so_far.entry
+        (λ x. MatchResult result
+        (λ y. (y.0 ≡ x.0) × (reading (a_mark mark) x.1.now ≡ read tt y.1.now)
+        × (length y.1.now < length x.1.now))
+        (λ stop. Stopped stop (reading (a_mark mark) x.1.now)))
+        (λ stop. result ≡ Err stop) }
+{
+    let (value, rest) = so_far?;
+    let rest = take_mark(rest, mark)?;
+    Ok((value, rest))
+}
+
+/// What was read, with this word behind it.
+pub fn before_word<'a, T: Drop>(
+    so_far: Result<(T, &'a [Terminal]), Stop<'a>>,
+    word: Word,
+) -> Result<(T, &'a [Terminal]), Stop<'a>>
+    ensures { MatchResult so_far.entry
+        (λ x. MatchResult result
+        (λ y. (y.0 ≡ x.0) × (reading (a_word word) x.1.now ≡ read tt y.1.now)
+        × (length y.1.now < length x.1.now))
+        (λ stop. Stopped stop (reading (a_word word) x.1.now)))
+        (λ stop. result ≡ Err stop) }
+{
+    let (value, rest) = so_far?;
+    let rest = take_word(rest, word)?;
+    Ok((value, rest))
+}
+
+/// What was read, with what was read before it.
+pub fn with_first<'a, T: Drop, U: Drop>(
+    first: T,
+    so_far: Result<(U, &'a [Terminal]), Stop<'a>>,
+) -> Result<((T, U), &'a [Terminal]), Stop<'a>>
+    ensures { MatchResult so_far.entry
+        (λ x. IsOkAnd result (λ y. (y.0.0 ≡ first) × (y.0.1 ≡ x.0) × (y.1.now ≡ x.1.now)))
+        (λ stop. result ≡ Err stop) }
+{
+    let (value, rest) = so_far?;
+    Ok(((first, value), rest))
+}
+
 /// What comes after this very name.
 #[tactic(auto, unfolding(regent_grammar::proofs::Opening::reading, regent_grammar::specs::Singles::named))]
 pub fn take_named<'a>(terminals: &'a [Terminal], name: &[u8]) -> Result<&'a [Terminal], Stop<'a>>
@@ -91,6 +152,17 @@ pub fn take_named<'a>(terminals: &'a [Terminal], name: &[u8]) -> Result<&'a [Ter
             }
         }
     }
+}
+
+/// What comes after `regentlib.` and this very name.
+#[tactic(auto, unfolding(regent_grammar::proofs::Opening::reading))]
+pub fn take_library<'a>(terminals: &'a [Terminal], name: &[u8]) -> Result<&'a [Terminal], Stop<'a>>
+    ensures { Gives (λ rest. read tt rest.now) result
+        (reading (a_word word.Regentlib ⊳ a_mark mark.Dot ⊳ named name.now) terminals.now) }
+{
+    let rest = take_word(terminals, Word::Regentlib)?;
+    let rest = take_mark(rest, Mark::Dot)?;
+    take_named(rest, name)
 }
 
 /// A name, and what comes after it.

@@ -14,7 +14,7 @@ ghost use Rattle.read_terms.specs.Gives.{Gives, with_front};
 use crate::ahead::{comes_mark, comes_word, line_of};
 use crate::names::next_name;
 use crate::stop::Stop;
-use crate::take::{take_mark, take_name, take_word};
+use crate::take::{before_mark, take_mark, take_name, take_opening, take_word};
 use plain_values::Sequence;
 use regent_grammar::{Mark, Symbol, Terminal, Word};
 use regent_tree::{Kind, Name, NumberTerm, Param, PointerTerm, Ref, SpaceUse, TypeTerm};
@@ -114,9 +114,7 @@ fn space_arguments(
 {
     if comes_mark(terminals, Mark::Open) {
         let rest = take_mark(terminals, Mark::Open)?;
-        let (references, rest) = references(alloc, rest)?;
-        let rest = take_mark(rest, Mark::Close)?;
-        Ok((references, rest))
+        before_mark(references(alloc, rest), Mark::Close)
     } else {
         Ok((Sequence::new(alloc), terminals))
     }
@@ -151,9 +149,7 @@ fn pointed_regions(
         (reading (a_mark mark.Comma ⊳ separated reference ⊲ a_mark mark.Close) terminals.now) }
 {
     let rest = take_mark(terminals, Mark::Comma)?;
-    let (regions, rest) = references(alloc, rest)?;
-    let rest = take_mark(rest, Mark::Close)?;
-    Ok((regions, rest))
+    before_mark(references(alloc, rest), Mark::Close)
 }
 
 /// A pointer type.
@@ -210,9 +206,7 @@ fn index_space(terminals: &[Terminal]) -> Result<(Kind, &[Terminal]), Stop<'_>>
 {
     let rest = take_word(terminals, Word::Ispace)?;
     let rest = take_mark(rest, Mark::Open)?;
-    let (kind, rest) = kind(rest)?;
-    let rest = take_mark(rest, Mark::Close)?;
-    Ok((kind, rest))
+    before_mark(kind(rest), Mark::Close)
 }
 
 /// The kind of a region's index space, where one is written.
@@ -221,8 +215,7 @@ fn region_kind(terminals: &[Terminal]) -> Result<(Option<Kind>, &[Terminal]), St
     ensures { Gives (λ x. read x.0 x.1.now) result (reading region_kind terminals.now) }
 {
     if comes_word(terminals, Word::Ispace) {
-        let (kind, rest) = index_space(terminals)?;
-        let rest = take_mark(rest, Mark::Comma)?;
+        let (kind, rest) = before_mark(index_space(terminals), Mark::Comma)?;
         Ok((Some(kind), rest))
     } else {
         Ok((None, terminals))
@@ -247,11 +240,9 @@ fn region_of(kind: Option<Kind>, space: SpaceUse) -> TypeTerm
 fn region_type(alloc: Global, terminals: &[Terminal]) -> Result<(TypeTerm, &[Terminal]), Stop<'_>>
     ensures { Gives (λ x. read x.0 x.1.now) result (reading region_type terminals.now) }
 {
-    let rest = take_word(terminals, Word::Region)?;
-    let rest = take_mark(rest, Mark::Open)?;
+    let rest = take_opening(terminals, Word::Region)?;
     let (kind, rest) = region_kind(rest)?;
-    let (space, rest) = space_use(alloc, rest)?;
-    let rest = take_mark(rest, Mark::Close)?;
+    let (space, rest) = before_mark(space_use(alloc, rest), Mark::Close)?;
     Ok((region_of(kind, space), rest))
 }
 
@@ -290,8 +281,7 @@ fn partition_begin(terminals: &[Terminal]) -> Result<(bool, &[Terminal]), Stop<'
     ensures { Gives (λ x. read x.0 x.1.now) result
         (reading (a_word word.Partition ⊳ a_mark mark.Open ⊳ disjointness) terminals.now) }
 {
-    let rest = take_word(terminals, Word::Partition)?;
-    let rest = take_mark(rest, Mark::Open)?;
+    let rest = take_opening(terminals, Word::Partition)?;
     disjointness(rest)
 }
 
@@ -304,9 +294,7 @@ fn partition_end(
     ensures { Gives (λ x. read x.0 x.1.now) result
         (reading (maybe (comes (is_mark mark.Comma)) (a_mark mark.Comma ⊳ name) ⊲ a_mark mark.Close) terminals.now) }
 {
-    let (colours, rest) = colours(alloc, terminals)?;
-    let rest = take_mark(rest, Mark::Close)?;
-    Ok((colours, rest))
+    before_mark(colours(alloc, terminals), Mark::Close)
 }
 
 /// A partition type.
@@ -392,8 +380,7 @@ pub fn parameter(alloc: Global, terminals: &[Terminal]) -> Result<(Param, &[Term
     ensures { Gives (λ x. read x.0 x.1.now) result (reading parameter terminals.now) }
 {
     let line = line_of(terminals);
-    let (name, rest) = take_name(alloc, terminals)?;
-    let rest = take_mark(rest, Mark::Colon)?;
+    let (name, rest) = before_mark(take_name(alloc, terminals), Mark::Colon)?;
     let (term, rest) = type_term(alloc, rest)?;
     Ok((Param { line, name, term }, rest))
 }

@@ -27,6 +27,9 @@ decreases-expression l = 10 * length l.terminals.now + 8
 abbrev pub decreases-links : goal.decreases-links
 decreases-links l = 10 * length l.terminals.now + 1
 
+abbrev pub decreases-listed : goal.decreases-listed
+decreases-listed l = 10 * length l.terminals.now + 9
+
 abbrev pub decreases-more_arguments : goal.decreases-more_arguments
 decreases-more_arguments l = 10 * length l.terminals.now + 1
 
@@ -42,11 +45,14 @@ decreases-prefix l = 10 * length l.terminals.now + 1
 abbrev pub decreases-primary : goal.decreases-primary
 decreases-primary l = 10 * length l.terminals.now
 
+abbrev pub decreases-place_step : goal.decreases-place_step
+decreases-place_step l = 10 * length l.terminals.now
+
 abbrev pub decreases-step : goal.decreases-step
-decreases-step l = 10 * length l.terminals.now
+decreases-step l = 10 * length l.terminals.now + 1
 
 abbrev pub decreases-steps : goal.decreases-steps
-decreases-steps l = 10 * length l.terminals.now + 1
+decreases-steps l = 10 * length l.terminals.now + 2
 
 abbrev pub invariant-links-loop-alloc : goal.invariant-links-loop-alloc
 invariant-links-loop-alloc l = record {
