@@ -17,8 +17,8 @@ ghost use Rattle.read_terms.specs.Gives.{Gives};
 ghost use Rattle.regent_tree.specs.Plain.{expression_of, initializer_of};
 
 use read_terms::{
-    Stop, comes_name_before, comes_word, expression, is_mark, is_word, next_name, space_use,
-    take_mark, take_name, take_word,
+    Stop, before_mark, comes_name_before, comes_word, expression, is_mark, is_word, next_name,
+    space_use, take_mark, take_name, take_opening, take_word, with_first,
 };
 use regent_grammar::{Mark, Symbol, Terminal, Word};
 use regent_tree::{Expr, Init, Name, SpaceUse};
@@ -30,8 +30,7 @@ fn region_space(alloc: Global, terminals: &[Terminal]) -> Result<(Expr, &[Termin
     ensures { Gives (λ x. read (expression_of x.0) x.1.now) result
         (reading (a_word word.Region ⊳ a_mark mark.Open ⊳ expression) terminals.now) }
 {
-    let rest = take_word(terminals, Word::Region)?;
-    let rest = take_mark(rest, Mark::Open)?;
+    let rest = take_opening(terminals, Word::Region)?;
     expression(alloc, rest)
 }
 
@@ -42,9 +41,7 @@ fn region_fields(alloc: Global, terminals: &[Terminal]) -> Result<(SpaceUse, &[T
         (reading (a_mark mark.Comma ⊳ space_use ⊲ a_mark mark.Close) terminals.now) }
 {
     let rest = take_mark(terminals, Mark::Comma)?;
-    let (fields, rest) = space_use(alloc, rest)?;
-    let rest = take_mark(rest, Mark::Close)?;
-    Ok((fields, rest))
+    before_mark(space_use(alloc, rest), Mark::Close)
 }
 
 /// A new region.
@@ -54,7 +51,7 @@ fn new_region(alloc: Global, terminals: &[Terminal]) -> Result<(Init, &[Terminal
         (reading new_region terminals.now) }
 {
     let (space, rest) = region_space(alloc, terminals)?;
-    let (fields, rest) = region_fields(alloc, rest)?;
+    let ((space, fields), rest) = with_first(space, region_fields(alloc, rest))?;
     Ok((Init::Region { space, fields }, rest))
 }
 
@@ -65,9 +62,7 @@ pub fn last_argument(alloc: Global, terminals: &[Terminal]) -> Result<(Expr, &[T
         (reading (a_mark mark.Comma ⊳ expression ⊲ a_mark mark.Close) terminals.now) }
 {
     let rest = take_mark(terminals, Mark::Comma)?;
-    let (last, rest) = expression(alloc, rest)?;
-    let rest = take_mark(rest, Mark::Close)?;
-    Ok((last, rest))
+    before_mark(expression(alloc, rest), Mark::Close)
 }
 
 /// The region that is divided equally.
@@ -76,8 +71,7 @@ fn equal_region(alloc: Global, terminals: &[Terminal]) -> Result<(Name, &[Termin
     ensures { Gives (λ x. read x.0 x.1.now) result
         (reading (a_word word.Partition ⊳ a_mark mark.Open ⊳ a_word word.Equal ⊳ a_mark mark.Comma ⊳ name) terminals.now) }
 {
-    let rest = take_word(terminals, Word::Partition)?;
-    let rest = take_mark(rest, Mark::Open)?;
+    let rest = take_opening(terminals, Word::Partition)?;
     let rest = take_word(rest, Word::Equal)?;
     let rest = take_mark(rest, Mark::Comma)?;
     take_name(alloc, rest)
@@ -89,8 +83,7 @@ fn field_region(alloc: Global, terminals: &[Terminal]) -> Result<(Name, &[Termin
     ensures { Gives (λ x. read x.0 x.1.now) result
         (reading (a_word word.Partition ⊳ a_mark mark.Open ⊳ name) terminals.now) }
 {
-    let rest = take_word(terminals, Word::Partition)?;
-    let rest = take_mark(rest, Mark::Open)?;
+    let rest = take_opening(terminals, Word::Partition)?;
     take_name(alloc, rest)
 }
 
@@ -189,9 +182,7 @@ fn last_field(alloc: Global, terminals: &[Terminal]) -> Result<(Name, &[Terminal
     ensures { Gives (λ x. read x.0 x.1.now) result
         (reading (a_mark mark.Dot ⊳ name ⊲ a_mark mark.Close) terminals.now) }
 {
-    let (field, rest) = field_behind(alloc, terminals)?;
-    let rest = take_mark(rest, Mark::Close)?;
-    Ok((field, rest))
+    before_mark(field_behind(alloc, terminals), Mark::Close)
 }
 
 /// An image or a preimage.
@@ -214,8 +205,7 @@ fn both_partitions(alloc: Global, terminals: &[Terminal]) -> Result<(Init, &[Ter
     ensures { Gives (λ x. read (initializer_of x.0) x.1.now) result
         (reading both_partitions terminals.now) }
 {
-    let (p, rest) = take_name(alloc, terminals)?;
-    let rest = take_mark(rest, Mark::Ampersand)?;
+    let (p, rest) = before_mark(take_name(alloc, terminals), Mark::Ampersand)?;
     let (q, rest) = take_name(alloc, rest)?;
     Ok((Init::Both { p, q }, rest))
 }
@@ -226,8 +216,7 @@ fn either_partition(alloc: Global, terminals: &[Terminal]) -> Result<(Init, &[Te
     ensures { Gives (λ x. read (initializer_of x.0) x.1.now) result
         (reading either_partition terminals.now) }
 {
-    let (p, rest) = take_name(alloc, terminals)?;
-    let rest = take_mark(rest, Mark::Bar)?;
+    let (p, rest) = before_mark(take_name(alloc, terminals), Mark::Bar)?;
     let (q, rest) = take_name(alloc, rest)?;
     Ok((Init::Either { p, q }, rest))
 }

@@ -3,7 +3,7 @@
 ghost use Rattle.std.specs.Prelude.{◌≡◌, ◌∷◌, [], codes, map};
 ghost use Rattle.std.specs.Option.{option_map};
 ghost use Rattle.regent_grammar.specs.Expressions.{access, expression};
-ghost use Rattle.regent_grammar.specs.Reading.{read, reading, then_read};
+ghost use Rattle.regent_grammar.specs.Reading.{read, reading};
 ghost use Rattle.regent_grammar.specs.Rules.{maybe, ◌⊳◌};
 ghost use Rattle.regent_grammar.specs.Singles.{a_mark, a_word, name, named, text};
 ghost use Rattle.regent_grammar.specs.Statements.{a_named_print, an_assert, an_assignment, assertion, assign};
@@ -21,8 +21,9 @@ ghost use Rattle.regent_tree.specs.PlainProgram.{form_of};
 use crate::initializers::{initializer, last_argument};
 use plain_values::Sequence;
 use read_terms::{
-    Stop, arguments, comes_mark, declared_type, expression, fields, is_mark, is_name, is_named,
-    is_word, more_arguments, steps, take_mark, take_name, take_named, take_text, take_word,
+    Stop, arguments, before_mark, comes_mark, declared_type, expression, fields, is_mark, is_name,
+    is_named, is_word, more_arguments, steps, take_library, take_mark, take_name, take_named,
+    take_opening, take_text, take_word, with_first,
 };
 use regent_grammar::{Mark, Symbol, Terminal, Word};
 use regent_tree::{Expr, How, Init, Name, Op, Step, What};
@@ -65,8 +66,7 @@ fn filled_region(alloc: Global, terminals: &[Terminal]) -> Result<(Name, &[Termi
     ensures { Gives (λ x. read x.0 x.1.now) result
         (reading (a_word word.Fill ⊳ a_mark mark.Open ⊳ name) terminals.now) }
 {
-    let rest = take_word(terminals, Word::Fill)?;
-    let rest = take_mark(rest, Mark::Open)?;
+    let rest = take_opening(terminals, Word::Fill)?;
     take_name(alloc, rest)
 }
 
@@ -123,22 +123,9 @@ fn asserted(alloc: Global, terminals: &[Terminal]) -> Result<(Expr, &[Terminal])
     ensures { Gives (λ x. read (expression_of x.0) x.1.now) result
         (reading (a_word word.Regentlib ⊳ a_mark mark.Dot ⊳ named (codes "assert") ⊳ a_mark mark.Open ⊳ expression) terminals.now) }
 {
-    let rest = take_word(terminals, Word::Regentlib)?;
-    let rest = take_mark(rest, Mark::Dot)?;
-    let rest = take_named(rest, b"assert")?;
+    let rest = take_library(terminals, b"assert")?;
     let rest = take_mark(rest, Mark::Open)?;
     expression(alloc, rest)
-}
-
-/// The end of an assertion, whose text the tree doesn't keep.
-#[tactic(auto, unfolding(regent_grammar::proofs::Opening::reading))]
-fn assertion_end(alloc: Global, terminals: &[Terminal]) -> Result<&[Terminal], Stop<'_>>
-    ensures { Gives (λ rest. read tt rest.now) result
-        (then_read (reading (maybe (comes (is_mark mark.Comma)) (a_mark mark.Comma ⊳ text)) terminals.now)
-        (λ t rest. reading (a_mark mark.Close) rest)) }
-{
-    let (_text, rest) = assertion_text(alloc, terminals)?;
-    take_mark(rest, Mark::Close)
 }
 
 /// An assertion.
@@ -148,7 +135,8 @@ pub fn assertion(alloc: Global, terminals: &[Terminal]) -> Result<(What, &[Termi
         (reading assertion terminals.now) }
 {
     let (test, rest) = asserted(alloc, terminals)?;
-    let rest = assertion_end(alloc, rest)?;
+    let text = before_mark(assertion_text(alloc, rest), Mark::Close);
+    let ((test, _text), rest) = with_first(test, text)?;
     Ok((What::Assert { test }, rest))
 }
 
@@ -175,9 +163,10 @@ fn print_arguments(
     ensures { Gives (λ x. read (map expression_of x.0.items) x.1.now) result
         (reading print_arguments terminals.now) }
 {
-    let (args, rest) = more_arguments(alloc, Vec::new(alloc), terminals)?;
-    let rest = take_mark(rest, Mark::Close)?;
-    Ok((args, rest))
+    before_mark(
+        more_arguments(alloc, Vec::new(alloc), terminals),
+        Mark::Close,
+    )
 }
 
 /// `printf` of the library.
@@ -186,9 +175,7 @@ pub fn printing(alloc: Global, terminals: &[Terminal]) -> Result<(What, &[Termin
     ensures { Gives (λ x. read (form_of x.0) x.1.now) result
         (reading printing terminals.now) }
 {
-    let rest = take_word(terminals, Word::Regentlib)?;
-    let rest = take_mark(rest, Mark::Dot)?;
-    let rest = take_named(rest, b"c")?;
+    let rest = take_library(terminals, b"c")?;
     let (format, rest) = print_format(alloc, rest)?;
     let (args, rest) = print_arguments(alloc, rest)?;
     let what = What::Print {
@@ -277,9 +264,7 @@ fn assign(terminals: &[Terminal]) -> Result<(How, &[Terminal]), Stop<'_>>
         (reading assign terminals.now) }
 {
     if comes_extremum(terminals) {
-        let (how, rest) = extremum(terminals)?;
-        let rest = take_mark(rest, Mark::Assign)?;
-        Ok((how, rest))
+        before_mark(extremum(terminals), Mark::Assign)
     } else {
         assign_sign(terminals)
     }
