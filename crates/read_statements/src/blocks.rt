@@ -1,8 +1,9 @@
 //! Statements with blocks.
 
-ghost use Rattle.std.specs.Prelude.{◌≡◌, ◌∷◌, [], IfOk, map};
+ghost use Rattle.std.specs.Prelude.{◌≡◌, ◌<◌, IfOk, length, map};
 ghost use Rattle.std.specs.Option.{option_map};
-ghost use Rattle.regent_grammar.specs.Reading.{read, reading, then_read};
+ghost use Rattle.regent_grammar.specs.Expressions.{expression};
+ghost use Rattle.regent_grammar.specs.Reading.{read, reading};
 ghost use Rattle.regent_grammar.specs.Rules.{many, maybe, ◌⊳◌, ◌⊲◌};
 ghost use Rattle.regent_grammar.specs.Singles.{a_word};
 ghost use Rattle.regent_grammar.specs.Statements.{arm, begins_statement, block, body, conditional};
@@ -11,16 +12,16 @@ ghost use Rattle.regent_grammar.specs.Statements.{statement, statements, while_l
 ghost use Rattle.regent_grammar.specs.Symbols.{comes, is_word};
 ghost use Rattle.regent_lex.specs.declared.tables.Word.TheVariants as word;
 ghost use Rattle.read_statements.specs.Blocks.{armed_of, statement_of};
-ghost use Rattle.read_statements.specs.Ranges.{behind_range};
 ghost use Rattle.read_terms.specs.Gives.{Gives};
+ghost use Rattle.regent_tree.specs.Plain.{expression_of};
 ghost use Rattle.regent_tree.specs.PlainProgram.{block_in, form_of};
 
 use crate::forms::{arm_of, chosen, comes_statement, ended, last_statement, semicolon, simple};
-use crate::ranges::{Range, comes_loop, demand, ranged, take_range};
+use crate::ranges::{comes_loop, demand, ranged, take_range};
 use read_forms::variable;
-use read_terms::{Stop, comes_word, expression, line_of, take_word};
+use read_terms::{Stop, before_word, comes_word, expression, line_of, take_word, with_first};
 use regent_grammar::{Terminal, Word};
-use regent_tree::{Arm, Stmt, What};
+use regent_tree::{Arm, Expr, Stmt, What};
 use std::alloc::Global;
 
 /// A block.
@@ -106,9 +107,7 @@ fn body(alloc: Global, terminals: &[Terminal]) -> Result<(Vec<Stmt>, &[Terminal]
         (reading body terminals.now) }
 {
     let rest = take_word(terminals, Word::Do)?;
-    let (statements, rest) = block(alloc, rest)?;
-    let rest = take_word(rest, Word::End)?;
-    Ok((statements, rest))
+    before_word(block(alloc, rest), Word::End)
 }
 
 /// A block of its own.
@@ -119,38 +118,31 @@ fn plain_block(alloc: Global, terminals: &[Terminal]) -> Result<(What, &[Termina
         (reading plain_block terminals.now) }
 {
     let rest = take_word(terminals, Word::Do)?;
-    let (body, rest) = block(alloc, rest)?;
-    let rest = take_word(rest, Word::End)?;
+    let (body, rest) = before_word(block(alloc, rest), Word::End)?;
     Ok((What::block(body), rest))
+}
+
+/// The test of a `while`.
+#[tactic(auto, unfolding(regent_grammar::proofs::Opening::reading), using(crate::proofs::Lengths::expression_less))]
+fn while_test(alloc: Global, terminals: &[Terminal]) -> Result<(Expr, &[Terminal]), Stop<'_>>
+    ensures same { Gives (λ x. read (expression_of x.0) x.1.now) result
+        (reading (a_word word.While ⊳ expression) terminals.now) }
+    ensures shorter { IfOk result (λ x. length x.1.now < length terminals.now) }
+{
+    let rest = take_word(terminals, Word::While)?;
+    expression(alloc, rest)
 }
 
 /// A `while`.
 #[cycle(block)]
-#[tactic(auto, unfolding(regent_grammar::proofs::Opening::reading, regent_grammar::specs::Statements::while_loop), using(crate::proofs::Lengths::expression_less))]
+#[tactic(auto, unfolding(regent_grammar::proofs::Opening::reading, regent_grammar::specs::Statements::while_loop))]
 fn while_loop(alloc: Global, terminals: &[Terminal]) -> Result<(What, &[Terminal]), Stop<'_>>
     ensures { Gives (λ x. read (form_of x.0) x.1.now) result
         (reading while_loop terminals.now) }
 {
-    let rest = take_word(terminals, Word::While)?;
-    let (test, rest) = expression(alloc, rest)?;
-    let (body, rest) = body(alloc, rest)?;
+    let (test, rest) = while_test(alloc, terminals)?;
+    let ((test, body), rest) = with_first(test, body(alloc, rest))?;
     Ok((What::repeat(test, body), rest))
-}
-
-/// The body of a `for` whose head was read.
-#[cycle(block)]
-#[tactic(auto, unfolding(regent_grammar::proofs::Opening::reading))]
-fn ranged_body(
-    alloc: Global,
-    demanded: bool,
-    range: Range,
-    terminals: &[Terminal],
-) -> Result<(What, &[Terminal]), Stop<'_>>
-    ensures { Gives (λ x. read (form_of x.0) x.1.now) result
-        (then_read (reading (behind_range range) terminals.now) (λ f rest. read (f demanded) rest)) }
-{
-    let (body, rest) = body(alloc, terminals)?;
-    Ok((ranged(demanded, range, body), rest))
 }
 
 /// A `for`, and the demand before it.
@@ -162,7 +154,8 @@ fn demandable_loop(alloc: Global, terminals: &[Terminal]) -> Result<(What, &[Ter
 {
     let (demanded, rest) = demand(terminals)?;
     let (range, rest) = take_range(alloc, rest)?;
-    ranged_body(alloc, demanded, range, rest)
+    let ((range, body), rest) = with_first(range, body(alloc, rest))?;
+    Ok((ranged(demanded, range, body), rest))
 }
 
 /// The first test of an `if`, and the block behind it.
@@ -186,9 +179,7 @@ fn other_end(
     ensures { Gives (λ x. read (option_map (λ b. block_in b.items) x.0) x.1.now) result
         (reading (maybe (comes (is_word word.Else)) (a_word word.Else ⊳ block) ⊲ a_word word.End) terminals.now) }
 {
-    let (other, rest) = other(alloc, terminals)?;
-    let rest = take_word(rest, Word::End)?;
-    Ok((other, rest))
+    before_word(other(alloc, terminals), Word::End)
 }
 
 /// An `if`.
@@ -199,9 +190,10 @@ fn conditional(alloc: Global, terminals: &[Terminal]) -> Result<(What, &[Termina
         (reading conditional terminals.now) }
 {
     let (first, rest) = first_arm(alloc, terminals)?;
-    let (arms, rest) = more_arms(alloc, rest)?;
-    let (other, rest) = other_end(alloc, rest)?;
-    Ok((chosen(first, arms, other)?, rest))
+    let (arms, rest) = with_first(first, more_arms(alloc, rest))?;
+    let ((arms, other), rest) = with_first(arms, other_end(alloc, rest))?;
+    let (first, further) = arms;
+    Ok((chosen(first, further, other)?, rest))
 }
 
 /// The block behind a test.
@@ -223,7 +215,7 @@ fn arm(alloc: Global, terminals: &[Terminal]) -> Result<(Arm, &[Terminal]), Stop
         (reading arm terminals.now) }
 {
     let (test, rest) = expression(alloc, terminals)?;
-    let (body, rest) = then_block(alloc, rest)?;
+    let ((test, body), rest) = with_first(test, then_block(alloc, rest))?;
     Ok((arm_of(test, body), rest))
 }
 

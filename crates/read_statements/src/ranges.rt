@@ -1,7 +1,9 @@
 //! What a `for` goes over.
 
-ghost use Rattle.std.specs.Prelude.{◌≡◌, ◌≤◌, ◌∷◌, [], IfOk, length};
+ghost use Rattle.std.specs.Prelude.{◌≡◌, ◌<◌, ◌≤◌, ◌∷◌, [], IfOk, length};
 ghost use Rattle.regent_grammar.specs.Reading.{read, reading};
+ghost use Rattle.regent_grammar.specs.Rules.{◌⊳◌};
+ghost use Rattle.regent_grammar.specs.Singles.{a_word, name};
 ghost use Rattle.regent_grammar.specs.Statements.{begins_loop, demand, for_loop, loop_in, loop_to};
 ghost use Rattle.regent_grammar.specs.Symbols.{come, comes, is_name, is_word};
 ghost use Rattle.regent_lex.specs.declared.tables.Word.TheVariants as word;
@@ -9,7 +11,10 @@ ghost use Rattle.read_statements.specs.Ranges.{behind_range, looping};
 ghost use Rattle.read_terms.specs.Gives.{Gives};
 ghost use Rattle.regent_tree.specs.PlainProgram.{block_in, form_of};
 
-use read_terms::{Stop, comes_word, expression, is_name, is_word, take_mark, take_name, take_word};
+use read_terms::{
+    Stop, before_mark, before_word, comes_word, expression, is_name, is_word, take_mark, take_name,
+    take_word, with_first,
+};
 use regent_grammar::{Mark, Terminal, Word};
 use regent_tree::{Expr, Name, Stmt, What};
 use std::alloc::Global;
@@ -31,16 +36,24 @@ pub fn ranged(demanded: bool, range: Range, body: Vec<Stmt>) -> What
     }
 }
 
+/// The name of a loop's variable.
+#[tactic(auto, unfolding(regent_grammar::proofs::Opening::reading))]
+fn loop_name(alloc: Global, terminals: &[Terminal]) -> Result<(Name, &[Terminal]), Stop<'_>>
+    ensures same { Gives (λ x. read x.0 x.1.now) result (reading (a_word word.For ⊳ name) terminals.now) }
+    ensures shorter { IfOk result (λ x. length x.1.now < length terminals.now) }
+{
+    let rest = take_word(terminals, Word::For)?;
+    take_name(alloc, rest)
+}
+
 /// A `for` over a region or an index space, up to its body.
 #[tactic(auto, unfolding(regent_grammar::proofs::Opening::reading, regent_grammar::specs::Statements::loop_in), using(crate::proofs::Lengths::expression_less))]
 fn range_in(alloc: Global, terminals: &[Terminal]) -> Result<(Range, &[Terminal]), Stop<'_>>
     ensures same { Gives (λ x. reading (behind_range x.0) x.1.now) result (reading loop_in terminals.now) }
     ensures no_longer { IfOk result (λ x. length x.1.now ≤ length terminals.now) }
 {
-    let rest = take_word(terminals, Word::For)?;
-    let (name, rest) = take_name(alloc, rest)?;
-    let rest = take_word(rest, Word::In)?;
-    let (domain, rest) = expression(alloc, rest)?;
+    let (name, rest) = before_word(loop_name(alloc, terminals), Word::In)?;
+    let ((name, domain), rest) = with_first(name, expression(alloc, rest))?;
     Ok((Range::In { name, domain }, rest))
 }
 
@@ -50,12 +63,11 @@ fn range_to(alloc: Global, terminals: &[Terminal]) -> Result<(Range, &[Terminal]
     ensures same { Gives (λ x. reading (behind_range x.0) x.1.now) result (reading loop_to terminals.now) }
     ensures no_longer { IfOk result (λ x. length x.1.now ≤ length terminals.now) }
 {
-    let rest = take_word(terminals, Word::For)?;
-    let (name, rest) = take_name(alloc, rest)?;
-    let rest = take_mark(rest, Mark::Assign)?;
-    let (from, rest) = expression(alloc, rest)?;
-    let rest = take_mark(rest, Mark::Comma)?;
-    let (to, rest) = expression(alloc, rest)?;
+    let (name, rest) = before_mark(loop_name(alloc, terminals), Mark::Assign)?;
+    let from = before_mark(expression(alloc, rest), Mark::Comma);
+    let (begin, rest) = with_first(name, from)?;
+    let ((begin, to), rest) = with_first(begin, expression(alloc, rest))?;
+    let (name, from) = begin;
     Ok((Range::To { name, from, to }, rest))
 }
 

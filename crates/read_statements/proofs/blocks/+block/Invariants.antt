@@ -28,9 +28,6 @@ decreases-first_arm l = 10 * length l.terminals.now
 abbrev pub decreases-other_end : goal.decreases-other_end
 decreases-other_end l = 10 * length l.terminals.now + 1
 
-abbrev pub decreases-ranged_body : goal.decreases-ranged_body
-decreases-ranged_body l = 10 * length l.terminals.now + 1
-
 abbrev pub decreases-then_block : goal.decreases-then_block
 decreases-then_block l = 10 * length l.terminals.now
 
