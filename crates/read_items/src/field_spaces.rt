@@ -4,17 +4,20 @@ ghost use Rattle.std.specs.Prelude.{◌≡◌, ◌<◌, [], ◌∷◌, IfOk, con
 ghost use Rattle.regent_grammar.specs.Items.{another_field, field_space, is_separator, separator};
 ghost use Rattle.regent_grammar.specs.Items.{separator_of, some_fields};
 ghost use Rattle.regent_grammar.specs.Reading.{read, reading};
-ghost use Rattle.regent_grammar.specs.Rules.{many, ◌⊳◌};
-ghost use Rattle.regent_grammar.specs.Symbols.{comes};
+ghost use Rattle.regent_grammar.specs.Rules.{gives, many, when◌then◌else◌, ◌⊲◌, ◌⊳◌};
+ghost use Rattle.regent_grammar.specs.Singles.{a_mark, a_word, name};
+ghost use Rattle.regent_grammar.specs.Symbols.{comes, is_mark};
 ghost use Rattle.regent_grammar.specs.Types.{parameter};
+ghost use Rattle.regent_lex.specs.declared.tables.Mark.TheVariants as mark;
+ghost use Rattle.regent_lex.specs.declared.tables.Word.TheVariants as word;
 ghost use Rattle.read_terms.specs.Gives.{Gives, with_front};
 ghost use Rattle.regent_tree.specs.Syntax.{space_item};
 
 use crate::parameters::space_parameters;
 use plain_values::Sequence;
-use read_terms::{Stop, comes_mark, parameter, take_mark, take_name, take_word};
+use read_terms::{Stop, before_mark, comes_mark, parameter, take_mark, take_name, take_word};
 use regent_grammar::{Mark, Symbol, Terminal, Word};
-use regent_tree::{FieldSpace, Param};
+use regent_tree::{FieldSpace, Name, Param};
 use std::alloc::Global;
 
 /// Whether a symbol separates fields.
@@ -115,6 +118,46 @@ fn some_fields(
     }
 }
 
+/// The name of a field space.
+#[tactic(auto, unfolding(regent_grammar::proofs::Opening::reading))]
+fn space_name(alloc: Global, terminals: &[Terminal]) -> Result<(Name, &[Terminal]), Stop<'_>>
+    ensures { Gives (λ x. read x.0 x.1.now) result (reading (a_word word.Fspace ⊳ name) terminals.now) }
+{
+    let rest = take_word(terminals, Word::Fspace)?;
+    take_name(alloc, rest)
+}
+
+/// Fields, of which there may be none.
+#[tactic(auto, unfolding(regent_grammar::proofs::Opening::reading))]
+fn listed_fields(
+    alloc: Global,
+    terminals: &[Terminal],
+) -> Result<(Sequence<Param>, &[Terminal]), Stop<'_>>
+    ensures { Gives (λ x. read x.0 x.1.now) result
+        (reading (when comes (is_mark mark.CloseBrace) then gives [] else some_fields) terminals.now) }
+{
+    if comes_mark(terminals, Mark::CloseBrace) {
+        Ok((Sequence::new(alloc), terminals))
+    } else {
+        some_fields(alloc, terminals)
+    }
+}
+
+/// The fields of a field space, in braces.
+#[tactic(auto, unfolding(regent_grammar::proofs::Opening::reading))]
+fn braced_fields(
+    alloc: Global,
+    terminals: &[Terminal],
+) -> Result<(Sequence<Param>, &[Terminal]), Stop<'_>>
+    ensures { Gives (λ x. read x.0 x.1.now) result
+        (reading (a_mark mark.OpenBrace
+        ⊳ (when comes (is_mark mark.CloseBrace) then gives [] else some_fields)
+        ⊲ a_mark mark.CloseBrace) terminals.now) }
+{
+    let rest = take_mark(terminals, Mark::OpenBrace)?;
+    before_mark(listed_fields(alloc, rest), Mark::CloseBrace)
+}
+
 /// A field space.
 #[tactic(auto, unfolding(regent_grammar::proofs::Opening::reading, regent_grammar::specs::Items::field_space))]
 pub fn field_space(
@@ -123,30 +166,13 @@ pub fn field_space(
 ) -> Result<(FieldSpace, &[Terminal]), Stop<'_>>
     ensures { Gives (λ x. read (space_item x.0) x.1.now) result (reading field_space terminals.now) }
 {
-    let rest = take_word(terminals, Word::Fspace)?;
-    let (name, rest) = take_name(alloc, rest)?;
+    let (name, rest) = space_name(alloc, terminals)?;
     let (params, rest) = space_parameters(alloc, rest)?;
-    let rest = take_mark(rest, Mark::OpenBrace)?;
-    if comes_mark(rest, Mark::CloseBrace) {
-        let fields = Sequence::new(alloc);
-        let rest = take_mark(rest, Mark::CloseBrace)?;
-        return Ok((
-            FieldSpace {
-                name,
-                params,
-                fields,
-            },
-            rest,
-        ));
-    }
-    let (fields, rest) = some_fields(alloc, rest)?;
-    let rest = take_mark(rest, Mark::CloseBrace)?;
-    Ok((
-        FieldSpace {
-            name,
-            params,
-            fields,
-        },
-        rest,
-    ))
+    let (fields, rest) = braced_fields(alloc, rest)?;
+    let space = FieldSpace {
+        name,
+        params,
+        fields,
+    };
+    Ok((space, rest))
 }

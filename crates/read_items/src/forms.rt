@@ -7,7 +7,9 @@ ghost use Rattle.regent_grammar.specs.Singles.{is_text, the_text};
 ghost use Rattle.read_terms.specs.Gives.{Gives};
 ghost use Rattle.regent_tree.specs.PlainProgram.{item_of};
 
-use read_terms::{Stop, take_mark, take_name, take_named, take_word};
+use read_terms::{
+    Stop, before_mark, before_word, take_library, take_mark, take_name, take_named, take_word,
+};
 use regent_grammar::{Mark, Symbol, Terminal, Word};
 use regent_tree::ItemKind;
 use std::alloc::Global;
@@ -54,10 +56,8 @@ pub fn alias(alloc: Global, terminals: &[Terminal]) -> Result<(ItemKind, &[Termi
     ensures { Gives (λ x. read (item_of x.0) x.1.now) result (reading alias terminals.now) }
 {
     let rest = take_word(terminals, Word::Local)?;
-    let (name, rest) = take_name(alloc, rest)?;
-    let rest = take_mark(rest, Mark::Assign)?;
-    let rest = take_word(rest, Word::Regentlib)?;
-    let rest = take_mark(rest, Mark::Dot)?;
+    let named = before_mark(take_name(alloc, rest), Mark::Assign);
+    let (name, rest) = before_mark(before_word(named, Word::Regentlib), Mark::Dot)?;
     let rest = take_named(rest, b"c".as_slice())?;
     Ok((ItemKind::Alias { name }, rest))
 }
@@ -70,11 +70,8 @@ pub fn start_item(
 ) -> Result<(ItemKind, &[Terminal]), Stop<'_>>
     ensures { Gives (λ x. read (item_of x.0) x.1.now) result (reading start_call terminals.now) }
 {
-    let rest = take_word(terminals, Word::Regentlib)?;
-    let rest = take_mark(rest, Mark::Dot)?;
-    let rest = take_named(rest, b"start".as_slice())?;
+    let rest = take_library(terminals, b"start".as_slice())?;
     let rest = take_mark(rest, Mark::Open)?;
-    let (name, rest) = take_name(alloc, rest)?;
-    let rest = take_mark(rest, Mark::Close)?;
+    let (name, rest) = before_mark(take_name(alloc, rest), Mark::Close)?;
     Ok((ItemKind::Start { name }, rest))
 }

@@ -10,7 +10,7 @@ ghost use Rattle.regent_lex.specs.declared.tables.Mark.TheVariants as mark;
 ghost use Rattle.read_terms.specs.Gives.{Gives, with_front};
 
 use plain_values::Sequence;
-use read_terms::{Stop, comes_mark, parameter, take_mark};
+use read_terms::{Stop, before_mark, comes_mark, parameter, take_mark};
 use regent_grammar::{Mark, Terminal};
 use regent_tree::Param;
 use std::alloc::Global;
@@ -69,9 +69,7 @@ pub fn space_parameters(
 {
     if comes_mark(terminals, Mark::Open) {
         let rest = take_mark(terminals, Mark::Open)?;
-        let (parameters, rest) = parameters(alloc, rest)?;
-        let rest = take_mark(rest, Mark::Close)?;
-        Ok((parameters, rest))
+        before_mark(parameters(alloc, rest), Mark::Close)
     } else {
         Ok((Sequence::new(alloc), terminals))
     }
@@ -91,8 +89,6 @@ pub fn task_parameters(
         let rest = take_mark(rest, Mark::Close)?;
         Ok((Sequence::new(alloc), rest))
     } else {
-        let (parameters, rest) = parameters(alloc, rest)?;
-        let rest = take_mark(rest, Mark::Close)?;
-        Ok((parameters, rest))
+        before_mark(parameters(alloc, rest), Mark::Close)
     }
 }

@@ -14,7 +14,8 @@ ghost use Rattle.read_terms.specs.Gives.{Gives, with_front};
 
 use plain_values::Sequence;
 use read_terms::{
-    Stop, comes_mark, comes_name_before, comes_word, fields, take_mark, take_name, take_word,
+    Stop, before_mark, before_word, comes_mark, comes_name_before, comes_word, fields, take_mark,
+    take_name, take_word,
 };
 use regent_grammar::{Mark, Symbol, Terminal, Word};
 use regent_tree::{Clause, Grant, Name, Op, Place};
@@ -183,17 +184,26 @@ fn more_places(
     Ok((places, rest))
 }
 
+/// Places, with commas between them.
+#[tactic(auto, unfolding(regent_grammar::proofs::Opening::reading, regent_grammar::specs::Singles::separated))]
+fn listed_places(
+    alloc: Global,
+    terminals: &[Terminal],
+) -> Result<(Sequence<Place>, &[Terminal]), Stop<'_>>
+    ensures { Gives (λ x. read x.0 x.1.now) result (reading (separated place) terminals.now) }
+{
+    let (first, rest) = place(alloc, terminals)?;
+    more_places(alloc, first, rest)
+}
+
 /// Places, in parentheses.
-#[tactic(auto, unfolding(regent_grammar::proofs::Opening::reading, regent_grammar::specs::Singles::in_parentheses, regent_grammar::specs::Singles::separated))]
+#[tactic(auto, unfolding(regent_grammar::proofs::Opening::reading, regent_grammar::specs::Singles::in_parentheses))]
 fn places(alloc: Global, terminals: &[Terminal]) -> Result<(Sequence<Place>, &[Terminal]), Stop<'_>>
     ensures { Gives (λ x. read x.0 x.1.now) result
         (reading (in_parentheses (separated place)) terminals.now) }
 {
     let rest = take_mark(terminals, Mark::Open)?;
-    let (first, rest) = place(alloc, rest)?;
-    let (places, rest) = more_places(alloc, first, rest)?;
-    let rest = take_mark(rest, Mark::Close)?;
-    Ok((places, rest))
+    before_mark(listed_places(alloc, rest), Mark::Close)
 }
 
 /// Privileges, and the places that they are for.
@@ -212,8 +222,7 @@ fn privileges(alloc: Global, terminals: &[Terminal]) -> Result<(Clause, &[Termin
 fn within(alloc: Global, terminals: &[Terminal]) -> Result<(Clause, &[Terminal]), Stop<'_>>
     ensures { Gives (λ x. read x.0 x.1.now) result (reading within terminals.now) }
 {
-    let (a, rest) = take_name(alloc, terminals)?;
-    let rest = take_mark(rest, Mark::AtMost)?;
+    let (a, rest) = before_mark(take_name(alloc, terminals), Mark::AtMost)?;
     let (b, rest) = take_name(alloc, rest)?;
     Ok((Clause::Within { a, b }, rest))
 }
@@ -223,8 +232,7 @@ fn within(alloc: Global, terminals: &[Terminal]) -> Result<(Clause, &[Terminal])
 fn apart(alloc: Global, terminals: &[Terminal]) -> Result<(Clause, &[Terminal]), Stop<'_>>
     ensures { Gives (λ x. read x.0 x.1.now) result (reading apart terminals.now) }
 {
-    let (a, rest) = take_name(alloc, terminals)?;
-    let rest = take_mark(rest, Mark::Star)?;
+    let (a, rest) = before_mark(take_name(alloc, terminals), Mark::Star)?;
     let (b, rest) = take_name(alloc, rest)?;
     Ok((Clause::Apart { a, b }, rest))
 }
@@ -273,8 +281,20 @@ fn more_clauses(
     Ok((clauses, rest))
 }
 
+/// Clauses, with commas between them.
+#[tactic(auto, unfolding(regent_grammar::proofs::Opening::reading, regent_grammar::specs::Singles::separated))]
+fn listed_clauses(
+    alloc: Global,
+    terminals: &[Terminal],
+) -> Result<(Sequence<Clause>, &[Terminal]), Stop<'_>>
+    ensures { Gives (λ x. read x.0 x.1.now) result (reading (separated clause) terminals.now) }
+{
+    let (first, rest) = clause(alloc, terminals)?;
+    more_clauses(alloc, first, rest)
+}
+
 /// The clauses of a task, where there are some.
-#[tactic(auto, unfolding(regent_grammar::proofs::Opening::reading, regent_grammar::specs::Items::clauses, regent_grammar::specs::Singles::separated))]
+#[tactic(auto, unfolding(regent_grammar::proofs::Opening::reading, regent_grammar::specs::Items::clauses))]
 pub fn clauses(
     alloc: Global,
     terminals: &[Terminal],
@@ -283,10 +303,7 @@ pub fn clauses(
 {
     if comes_word(terminals, Word::Where) {
         let rest = take_word(terminals, Word::Where)?;
-        let (first, rest) = clause(alloc, rest)?;
-        let (clauses, rest) = more_clauses(alloc, first, rest)?;
-        let rest = take_word(rest, Word::Do)?;
-        Ok((clauses, rest))
+        before_word(listed_clauses(alloc, rest), Word::Do)
     } else {
         Ok((Sequence::new(alloc), terminals))
     }

@@ -4,6 +4,9 @@ ghost use Rattle.std.specs.Prelude.{◌≡◌};
 ghost use Rattle.read_items.specs.TaskHeads.{headed};
 ghost use Rattle.regent_grammar.specs.Items.{task_head};
 ghost use Rattle.regent_grammar.specs.Reading.{read, reading};
+ghost use Rattle.regent_grammar.specs.Rules.{◌⊳◌};
+ghost use Rattle.regent_grammar.specs.Singles.{a_word, name};
+ghost use Rattle.regent_lex.specs.declared.tables.Word.TheVariants as word;
 ghost use Rattle.read_terms.specs.Gives.{Gives};
 ghost use Rattle.regent_tree.specs.Syntax.{task_item};
 ghost use Rattle.regent_tree.specs.PlainProgram.{block_in, task_of};
@@ -40,13 +43,21 @@ impl TaskHead {
     }
 }
 
+/// The name of a task.
+#[tactic(auto, unfolding(regent_grammar::proofs::Opening::reading))]
+fn task_name(alloc: Global, terminals: &[Terminal]) -> Result<(Name, &[Terminal]), Stop<'_>>
+    ensures { Gives (λ x. read x.0 x.1.now) result (reading (a_word word.Task ⊳ name) terminals.now) }
+{
+    let rest = take_word(terminals, Word::Task)?;
+    take_name(alloc, rest)
+}
+
 /// What stands before the body of a task.
 #[tactic(auto, unfolding(regent_grammar::proofs::Opening::reading))]
 pub fn task_head(alloc: Global, terminals: &[Terminal]) -> Result<(TaskHead, &[Terminal]), Stop<'_>>
     ensures { Gives (λ x. read (headed x.0) x.1.now) result (reading task_head terminals.now) }
 {
-    let rest = take_word(terminals, Word::Task)?;
-    let (name, rest) = take_name(alloc, rest)?;
+    let (name, rest) = task_name(alloc, terminals)?;
     let (params, rest) = task_parameters(alloc, rest)?;
     let (result, rest) = declared_type(alloc, rest)?;
     let (clauses, rest) = clauses(alloc, rest)?;
