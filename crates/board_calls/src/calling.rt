@@ -1,6 +1,6 @@
 //! Segments that end in calls.
 
-ghost use Rattle.std.specs.Prelude.{◌≡◌, ◌<◌, ◌≤◌, ◌+◌, ◌++◌, IfErr, IfOk, IfSome, OnErr, OnOk, length, map, vec_capacity, vec_len};
+ghost use Rattle.std.specs.Prelude.{◌≡◌, ◌<◌, ◌≤◌, ◌+◌, ◌++◌, All, IfOk, IfSome, OnErr, OnOk, length, map, vec_capacity, vec_len};
 ghost use Rattle.board_calls.specs.Calls.{HasNeedsOf, activity_by, are_all, called_operations, called_waits, calling, calls_in, frames_of, numbers_from, waiting_by};
 ghost use Rattle.board_gives.specs.Gives.{also_told};
 ghost use Rattle.board_gives.specs.Rooms.{HasRoom};
@@ -11,7 +11,6 @@ ghost use Rattle.board_terms.specs.declared.operation.Wait.TheVariants as wait_t
 ghost use Rattle.dependence_graph.specs.Graphs.{issued};
 ghost use Rattle.dependence_graph.specs.Knots.{knot_at};
 ghost use Rattle.dependence_graph.specs.declared.stage.Stage.TheVariants.{Begun};
-ghost use Rattle.machine_terms.specs.Segments.{segment};
 ghost use Rattle.physical_instances.specs.Kept.{map_of};
 ghost use Rattle.region_finder.specs.Listings.{IsListingOf};
 
@@ -19,7 +18,7 @@ use crate::issuing::{issue_children, numbers_from};
 use crate::opening::frames_before;
 use board_gives::{Waits, give_parts, leave, take_parts, tell, untell, wait_for_nothing};
 use board_terms::{Activity, Ending, Operation, Wait};
-use machine_terms::{After, CallOut, Frame, Ran, Yield};
+use machine_terms::{After, CallOut, Frame, Yield};
 use physical_instances::Contents;
 use plain_values::Sequence;
 use region_forest::Forest;
@@ -38,30 +37,28 @@ pub fn give_calls(
     graph: &mut Waits,
     operations: &mut Vec<Operation>,
     op: OpNumber,
-    ran: Ran,
-) -> Result<(), (AllocError, Ran)>
+    after: &mut After,
+) -> Result<(), AllocError>
     requires there { op.0 < length operations.old.items }
     requires begun { (knot_at graph.old.knots op.0).stage ≡ Begun }
     requires listing { IsListingOf tree.now graph.old.listing }
-    requires needs { IfSome (segment ran).frame (HasNeedsOf tree.now) }
-    ensures operations { OnOk result (operations.new.items ≡ called_operations operations.old.items op (segment ran)
-        (frames_of code.now turns tree.now (map_of contents.old) (segment ran))
-        (are_all code.now turns tree.now (map_of contents.old) (segment ran))) }
+    requires needs { IfSome after.old.frame (HasNeedsOf tree.now) }
+    ensures operations { OnOk result (operations.new.items ≡ called_operations operations.old.items op after.old
+        (frames_of code.now turns tree.now (map_of contents.old) after.old)
+        (are_all code.now turns tree.now (map_of contents.old) after.old)) }
     ensures graph { OnOk result (graph.new ≡ called_waits tree.now graph.old op
-        (frames_of code.now turns tree.now (map_of contents.old) (segment ran))
-        (are_all code.now turns tree.now (map_of contents.old) (segment ran))) }
-    ensures map { OnOk result (map_of contents.new ≡ with_parts (segment ran).parts (map_of contents.old)) }
+        (frames_of code.now turns tree.now (map_of contents.old) after.old)
+        (are_all code.now turns tree.now (map_of contents.old) after.old)) }
+    ensures map { OnOk result (map_of contents.new ≡ with_parts after.old.parts (map_of contents.old)) }
     ensures unchanged { OnErr result (operations.new.items ≡ operations.old.items) }
     ensures same { OnErr result ((graph.new ≡ graph.old) × (map_of contents.new ≡ map_of contents.old)) }
-    ensures handed { IfErr result (λ e. e.1 ≡ ran) }
+    ensures handed { OnErr result (after.new ≡ after.old) }
 {
     let first = operations.len() as u64;
-    if let Err(failed) = operations.reserve(calls_of(ran.after()).len()) {
-        return Err((failed, ran));
-    }
+    operations.reserve(calls_of(after).len())?;
     let operation = &mut operations[op.0 as usize];
     let frames = call_out(
-        alloc, code, turns, tree, contents, graph, operation, op, first, ran,
+        alloc, code, turns, tree, contents, graph, operation, op, first, after,
     )?;
     add_children(alloc, operations, op, frames);
     Ok(())
@@ -88,36 +85,31 @@ fn call_out(
     operation: &mut Operation,
     op: OpNumber,
     first: u64,
-    ran: Ran,
-) -> Result<Vec<Frame>, (AllocError, Ran)>
+    after: &mut After,
+) -> Result<Vec<Frame>, AllocError>
     requires begun { (knot_at graph.old.knots op.0).stage ≡ Begun }
     requires listing { IsListingOf tree.now graph.old.listing }
-    requires needs { IfSome (segment ran).frame (HasNeedsOf tree.now) }
-    ensures frames { IfOk result (λ fs. fs.items ≡ frames_of code.now turns tree.now (map_of contents.old) (segment ran)) }
-    ensures operation { OnOk result (operation.new ≡ calling operation.old (segment ran) first
-        (length (frames_of code.now turns tree.now (map_of contents.old) (segment ran)))
-        (are_all code.now turns tree.now (map_of contents.old) (segment ran))) }
+    requires needs { IfSome after.old.frame (HasNeedsOf tree.now) }
+    ensures frames { IfOk result (λ fs. fs.items ≡ frames_of code.now turns tree.now (map_of contents.old) after.old) }
+    ensures operation { OnOk result (operation.new ≡ calling operation.old after.old first
+        (length (frames_of code.now turns tree.now (map_of contents.old) after.old))
+        (are_all code.now turns tree.now (map_of contents.old) after.old)) }
     ensures graph { OnOk result (graph.new ≡ called_waits tree.now graph.old op
-        (frames_of code.now turns tree.now (map_of contents.old) (segment ran))
-        (are_all code.now turns tree.now (map_of contents.old) (segment ran))) }
-    ensures map { OnOk result (map_of contents.new ≡ with_parts (segment ran).parts (map_of contents.old)) }
+        (frames_of code.now turns tree.now (map_of contents.old) after.old)
+        (are_all code.now turns tree.now (map_of contents.old) after.old)) }
+    ensures map { OnOk result (map_of contents.new ≡ with_parts after.old.parts (map_of contents.old)) }
     ensures unchanged { OnErr result (operation.new ≡ operation.old) }
     ensures same { OnErr result ((graph.new ≡ graph.old) × (map_of contents.new ≡ map_of contents.old)) }
-    ensures handed { IfErr result (λ e. e.1 ≡ ran) }
+    ensures handed { OnErr result (after.new ≡ after.old) }
 {
-    let after = ran.after();
-    match prepare(
+    let frames = prepare(
         alloc, code, turns, tree, contents, graph, operation, op, first, after,
-    ) {
-        Ok(frames) => {
-            let all = frames.len() == calls_of(after).len();
-            leave(alloc, operation, ran.into_after());
-            give_parts(contents, take_parts(alloc, operation));
-            go_on(tree, graph, operation, op, all);
-            Ok(frames)
-        }
-        Err(failed) => Err((failed, ran)),
-    }
+    )?;
+    let all = frames.len() == calls_of(after).len();
+    leave(alloc, operation, after);
+    give_parts(contents, take_parts(alloc, operation));
+    go_on(tree, graph, operation, op, all);
+    Ok(frames)
 }
 
 /// Takes all memory that calls want, tells the text and issues the children, of whose frames it answers.
@@ -149,15 +141,50 @@ fn prepare(
     ensures same { OnErr result (graph.new ≡ graph.old) }
 {
     let frames = frames_of(alloc, code, turns, tree, contents, after)?;
-    let numbers = numbers_from(alloc, first, frames.len())?;
     contents.reserve(after.parts.as_slice())?;
-    tell(alloc, operation, after.text.as_slice())?;
-    let known = numbers.as_slice();
+    let text = after.text.as_slice();
     let issued = frames.as_slice();
-    match issue_children(alloc, tree, graph, operation, op, known, issued) {
-        Ok(()) => Ok(frames),
+    tell_calls(alloc, tree, graph, operation, op, first, text, issued)?;
+    Ok(frames)
+}
+
+/// Tells the text, and issues the children that begin in these frames, by their numbers from the first one on.
+fn tell_calls(
+    alloc: Global,
+    tree: &Forest,
+    graph: &mut Waits,
+    operation: &mut Operation,
+    op: OpNumber,
+    first: u64,
+    text: &[u8],
+    frames: &[Frame],
+) -> Result<(), AllocError>
+    requires begun { (knot_at graph.old.knots op.0).stage ≡ Begun }
+    requires listing { IsListingOf tree.now graph.old.listing }
+    requires needs { All (HasNeedsOf tree.now) frames.now }
+    ensures operation { OnOk result (operation.new ≡ record (also_told operation.old text.now) {
+      children = operation.old.children ++ numbers_from first (length frames.now);
+    }) }
+    ensures graph { OnOk result (graph.new ≡ issued tree.now graph.old op (needs_of frames.now)) }
+    ensures begun { OnOk result ((knot_at graph.new.knots op.0).stage ≡ Begun) }
+    ensures listing { OnOk result (IsListingOf tree.now graph.new.listing) }
+    ensures unchanged { OnErr result (operation.new ≡ operation.old) }
+    ensures same { OnErr result (graph.new ≡ graph.old) }
+{
+    let numbers = numbers_from(alloc, first, frames.len())?;
+    tell(alloc, operation, text)?;
+    match issue_children(
+        alloc,
+        tree,
+        graph,
+        operation,
+        op,
+        numbers.as_slice(),
+        frames,
+    ) {
+        Ok(()) => Ok(()),
         Err(failed) => {
-            untell(operation, after.text.as_slice());
+            untell(operation, text);
             Err(failed)
         }
     }

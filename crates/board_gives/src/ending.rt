@@ -1,20 +1,18 @@
 //! Operations whose own work has ended.
 
-ghost use Rattle.std.specs.Prelude.{◌≡◌, [], IfErr, IfOk, OnErr, OnOk};
+ghost use Rattle.std.specs.Prelude.{◌≡◌, [], IfOk, OnErr, OnOk};
 ghost use Rattle.board_gives.specs.Gives.{also_told, ended_with};
 ghost use Rattle.board_gives.specs.Rooms.{HasRoom};
 ghost use Rattle.board_terms.specs.declared.operation.Activity.TheVariants as activity;
 ghost use Rattle.board_terms.specs.declared.operation.Ending.TheVariants as ending_term;
 ghost use Rattle.board_terms.specs.Gives.{frame_left, with_parts};
 ghost use Rattle.board_terms.specs.States.{no_frame};
-ghost use Rattle.machine_terms.specs.declared.frame.Frame.{Frame as frame_term};
-ghost use Rattle.machine_terms.specs.Segments.{segment};
 ghost use Rattle.physical_instances.specs.Kept.{map_of};
 
 use crate::returning::give_parts;
 use crate::telling::tell;
 use board_terms::{Activity, Ending, Operation};
-use machine_terms::{After, Frame, Ran, Stack};
+use machine_terms::{After, Frame, Stack};
 use physical_instances::Contents;
 use plain_values::Sequence;
 use region_tree::{Needs, Part, RootId};
@@ -26,20 +24,16 @@ pub fn fail(
     alloc: Global,
     operation: &mut Operation,
     ending: Ending,
-    ran: Ran,
-) -> Result<(), (AllocError, Ran)>
-    ensures ended { OnOk result (operation.new ≡ ended_with operation.old (segment ran) ending) }
+    after: &mut After,
+) -> Result<(), AllocError>
+    ensures ended { OnOk result (operation.new ≡ ended_with operation.old after.old ending) }
     ensures unchanged { OnErr result (operation.new ≡ operation.old) }
-    ensures handed { IfErr result (λ e. e.1 ≡ ran) }
+    ensures handed { OnErr result (after.new ≡ after.old) }
 {
-    match tell(alloc, operation, ran.after().text.as_slice()) {
-        Ok(()) => {
-            leave(alloc, operation, ran.into_after());
-            close(alloc, operation, ending);
-            Ok(())
-        }
-        Err(failed) => Err((failed, ran)),
-    }
+    tell(alloc, operation, after.text.as_slice())?;
+    leave(alloc, operation, after);
+    close(alloc, operation, ending);
+    Ok(())
 }
 
 /// The own work of an operation comes to its end with a value or none, and its parts go back.
@@ -48,23 +42,19 @@ pub fn end(
     contents: &mut Contents,
     operation: &mut Operation,
     value: Option<i64>,
-    ran: Ran,
-) -> Result<(), (AllocError, Ran)>
-    ensures ended { OnOk result (operation.new ≡ ended_with operation.old (segment ran) (ending_term.Value value)) }
-    ensures map { OnOk result (map_of contents.new ≡ with_parts (segment ran).parts (map_of contents.old)) }
+    after: &mut After,
+) -> Result<(), AllocError>
+    ensures ended { OnOk result (operation.new ≡ ended_with operation.old after.old (ending_term.Value value)) }
+    ensures map { OnOk result (map_of contents.new ≡ with_parts after.old.parts (map_of contents.old)) }
     ensures unchanged { OnErr result (operation.new ≡ operation.old) }
     ensures same { OnErr result (map_of contents.new ≡ map_of contents.old) }
-    ensures handed { IfErr result (λ e. e.1 ≡ ran) }
+    ensures handed { OnErr result (after.new ≡ after.old) }
 {
-    match prepare_end(alloc, contents, operation, ran.after()) {
-        Ok(()) => {
-            leave(alloc, operation, ran.into_after());
-            give_parts(contents, take_parts(alloc, operation));
-            close(alloc, operation, Ending::Value(value));
-            Ok(())
-        }
-        Err(failed) => Err((failed, ran)),
-    }
+    prepare_end(alloc, contents, operation, after)?;
+    leave(alloc, operation, after);
+    give_parts(contents, take_parts(alloc, operation));
+    close(alloc, operation, Ending::Value(value));
+    Ok(())
 }
 
 /// Makes room for the reductions, and tells the text.
@@ -91,28 +81,29 @@ pub fn take_parts(alloc: Global, operation: &mut Operation) -> Sequence<Part>
     mem::replace(&mut operation.parts, Sequence::new(alloc))
 }
 
-/// An operation is as its segment left it, but for the text.
-pub fn leave(alloc: Global, operation: &mut Operation, after: After)
+/// An operation is as its segment left it, but for the text. The frame and the parts are taken out of what was left.
+pub fn leave(alloc: Global, operation: &mut Operation, after: &mut After)
     ensures { operation.new ≡ record operation.old {
-      frame = frame_left operation.old.frame after.frame;
-      parts = after.parts;
+      frame = frame_left operation.old.frame after.old.frame;
+      parts = after.old.parts;
       activity = activity.Idle;
     } }
 {
-    let After { frame, parts, .. } = after;
-    let own = mem::replace(&mut operation.frame.own, Sequence::new(alloc));
-    operation.frame = frame_left(alloc, own, frame);
-    operation.parts = parts;
+    leave_frame(alloc, &mut operation.frame, after.frame.take());
+    operation.parts = mem::replace(&mut after.parts, Sequence::new(alloc));
     operation.activity = Activity::Idle;
 }
 
-/// The frame that a segment left, or, where it left none, one of the roots that the task made.
-fn frame_left(alloc: Global, own: Sequence<RootId>, frame: Option<Frame>) -> Frame
-    ensures { (f : frame_term) → own ≡ f.own → result ≡ frame_left f frame }
+/// A frame is the one that a segment left, or, where it left none, one of the roots that the task made.
+fn leave_frame(alloc: Global, frame: &mut Frame, left: Option<Frame>)
+    ensures { frame.new ≡ frame_left frame.old left }
 {
-    match frame {
-        Some(frame) => frame,
-        None => frame_of_roots(alloc, own),
+    match left {
+        Some(left) => *frame = left,
+        None => {
+            let own = mem::replace(&mut frame.own, Sequence::new(alloc));
+            *frame = frame_of_roots(alloc, own);
+        }
     }
 }
 

@@ -1,5 +1,5 @@
 //! What a segment that is given back makes of the parts of a board's state. Each call takes its memory before it changes
-//! anything; a refusal hands the run back.
+//! anything; a refusal leaves what the segment left as it was.
 #![tactic(auto)]
 
 mod ending;

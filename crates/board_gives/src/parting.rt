@@ -1,13 +1,12 @@
 //! Partitions that are made.
 
-ghost use Rattle.std.specs.Prelude.{◌≡◌, IfNone, IfOk, IfErr, IfSome, OnErr, false, length, true};
+ghost use Rattle.std.specs.Prelude.{◌≡◌, IfNone, IfOk, IfSome, OnErr, OnOk, false, length, true};
 ghost use Rattle.board_gives.specs.Gives.{also_told, ended_with};
 ghost use Rattle.board_gives.specs.Makes.{frame_with_partition, may_part, parted_with};
 ghost use Rattle.board_terms.specs.Gives.{frame_left};
 ghost use Rattle.board_terms.specs.Makes.{children_from, is_here};
 ghost use Rattle.board_terms.specs.declared.operation.Ending.TheVariants.{Broken};
 ghost use Rattle.machine_terms.specs.Makes.{is_sound};
-ghost use Rattle.machine_terms.specs.Segments.{segment};
 ghost use Rattle.region_finder.specs.Forests.{IsForest};
 ghost use Rattle.region_tree.specs.Kept.{Grows};
 ghost use Rattle.region_tree.specs.Trees.{IsRegion, set_at, with_partition};
@@ -15,7 +14,7 @@ ghost use Rattle.region_tree.specs.Trees.{IsRegion, set_at, with_partition};
 use crate::ending::{copy_left, fail, leave};
 use crate::telling::{tell, untell};
 use board_terms::{Ending, Operation, Wait};
-use machine_terms::{After, Frame, PartitionValue, Ran, RegionValue, Value};
+use machine_terms::{After, Frame, PartitionValue, RegionValue, Value};
 use plain_values::{Sequence, Shared};
 use point_sets::PointSet;
 use region_forest::Forest;
@@ -31,33 +30,32 @@ pub fn make_partition(
     region: &RegionValue,
     sets: Vec<PointSet>,
     disjoint: bool,
-    ran: Ran,
-) -> Result<bool, (AllocError, Ran)>
+    after: &mut After,
+) -> Result<bool, AllocError>
     ensures made { IfOk result (λ made. made ≡ may_part tree.old region.now sets.items disjoint) }
     ensures tree { IfOk result (λ made. made ≡ true
         → tree.new ≡ with_partition tree.old region.now.node.0 sets.items disjoint) }
     ensures operation { IfOk result (λ made. made ≡ true
-        → operation.new ≡ parted_with tree.old region.now sets.items disjoint operation.old (segment ran)) }
+        → operation.new ≡ parted_with tree.old region.now sets.items disjoint operation.old after.old) }
     ensures refused { IfOk result (λ made. made ≡ false → tree.new ≡ tree.old) }
-    ensures broken { IfOk result (λ made. made ≡ false → operation.new ≡ ended_with operation.old (segment ran) Broken) }
+    ensures broken { IfOk result (λ made. made ≡ false → operation.new ≡ ended_with operation.old after.old Broken) }
     ensures grows { Grows tree.old tree.new }
     ensures forest { IsForest tree.old }
     ensures unchanged { OnErr result (operation.new ≡ operation.old) }
     ensures same { OnErr result (tree.new ≡ tree.old) }
-    ensures handed { IfErr result (λ e. e.1 ≡ ran) }
+    ensures handed { OnErr result (after.new ≡ after.old) }
 {
-    match prepare_partition(alloc, tree, operation, region, sets, disjoint, ran.after()) {
-        Ok(Some(frame)) => {
-            leave(alloc, operation, ran.into_after());
+    match prepare_partition(alloc, tree, operation, region, sets, disjoint, after)? {
+        Some(frame) => {
+            leave(alloc, operation, after);
             operation.frame = frame;
             operation.wait = Wait::Nothing;
             Ok(true)
         }
-        Ok(None) => match fail(alloc, operation, Ending::Broken, ran) {
-            Ok(()) => Ok(false),
-            Err(refused) => Err(refused),
-        },
-        Err(failed) => Err((failed, ran)),
+        None => {
+            fail(alloc, operation, Ending::Broken, after)?;
+            Ok(false)
+        }
     }
 }
 
@@ -88,18 +86,60 @@ fn prepare_partition(
     if !is_here(tree, region) {
         return Ok(None);
     }
-    let left = copy_left(alloc, operation, after)?;
-    let frame = frame_with_partition(alloc, tree, region.root, &sets, disjoint, left)?;
-    tell(alloc, operation, after.text.as_slice())?;
-    match add_partition(tree, region.node, sets, disjoint) {
-        Ok(true) => Ok(Some(frame)),
-        Ok(false) => {
-            untell(operation, after.text.as_slice());
-            Ok(None)
-        }
-        Err(failed) => {
-            untell(operation, after.text.as_slice());
-            Err(failed)
+    let frame = parted_frame(alloc, tree, region.root, &sets, disjoint, operation, after)?;
+    let text = after.text.as_slice();
+    if tell_partition(alloc, tree, operation, region.node, sets, disjoint, text)? {
+        Ok(Some(frame))
+    } else {
+        Ok(None)
+    }
+}
+
+/// The frame that a segment left an operation, with the next partition of the tree.
+fn parted_frame(
+    alloc: Global,
+    tree: &Forest,
+    root: RootId,
+    sets: &[PointSet],
+    disjoint: bool,
+    operation: &Operation,
+    after: &After,
+) -> Result<Frame, AllocError>
+    ensures { IfOk result (λ f. f ≡ frame_with_partition (length tree.now.nodes) root sets.now
+        disjoint (frame_left operation.now.frame after.now.frame)) }
+{
+    let mut frame = copy_left(alloc, operation, after)?;
+    push_partition(alloc, tree, root, sets, disjoint, &mut frame)?;
+    Ok(frame)
+}
+
+/// Makes a partition where it may be made, and tells the text then. Tells whether it was made.
+fn tell_partition(
+    alloc: Global,
+    tree: &mut Forest,
+    operation: &mut Operation,
+    region: Node,
+    sets: Vec<PointSet>,
+    disjoint: bool,
+    text: &[u8],
+) -> Result<bool, AllocError>
+    requires { IsRegion tree.old region.0 }
+    ensures made { IfOk result (λ made. made ≡ is_sound (set_at tree.old region.0) sets.items disjoint) }
+    ensures tree { IfOk result (λ made. made ≡ true
+        → tree.new ≡ with_partition tree.old region.0 sets.items disjoint) }
+    ensures told { IfOk result (λ made. made ≡ true → operation.new ≡ also_told operation.old text.now) }
+    ensures stays { IfOk result (λ made. made ≡ false → tree.new ≡ tree.old) }
+    ensures untold { IfOk result (λ made. made ≡ false → operation.new ≡ operation.old) }
+    ensures grows { Grows tree.old tree.new }
+    ensures unchanged { OnErr result (operation.new ≡ operation.old) }
+    ensures same { OnErr result (tree.new ≡ tree.old) }
+{
+    tell(alloc, operation, text)?;
+    match add_partition(tree, region, sets, disjoint) {
+        Ok(true) => Ok(true),
+        refused => {
+            untell(operation, text);
+            refused
         }
     }
 }
@@ -142,27 +182,24 @@ fn add_partition(
     }
 }
 
-/// The frame of the task that makes the next partition of the tree.
-fn frame_with_partition(
+/// The next partition of the tree is on the stack of a frame.
+fn push_partition(
     alloc: Global,
     tree: &Forest,
     root: RootId,
     sets: &[PointSet],
     disjoint: bool,
-    frame: Frame,
-) -> Result<Frame, AllocError>
-    ensures { IfOk result (λ f. f ≡ frame_with_partition (length tree.now.nodes) root sets.now disjoint frame) }
+    frame: &mut Frame,
+) -> Result<(), AllocError>
+    ensures { OnOk result (frame.new ≡ frame_with_partition (length tree.now.nodes) root sets.now disjoint frame.old) }
 {
     let (_, partition) = tree.tree().next();
-    let children = children_of(alloc, root, partition, sets)?;
-    let value = PartitionValue {
+    let children = Shared::new(alloc, children_of(alloc, root, partition, sets)?)?;
+    frame.stack.push(Value::Partition(PartitionValue {
         root,
         disjoint,
-        children: Shared::new(alloc, children)?,
-    };
-    let mut behind = frame;
-    behind.stack.push(Value::Partition(value))?;
-    Ok(behind)
+        children,
+    }))
 }
 
 /// A region for each colour of a partition. A node past the last number counts as a want of memory.

@@ -1,6 +1,6 @@
 //! Roots that are made.
 
-ghost use Rattle.std.specs.Prelude.{◌≡◌, ◌<◌, ◌∷◌, ◌++◌, [], All, IfErr, IfOk, OnErr, OnOk, length, map};
+ghost use Rattle.std.specs.Prelude.{◌≡◌, ◌<◌, ◌∷◌, ◌++◌, [], All, IfOk, OnErr, OnOk, length, map};
 ghost use Rattle.board_gives.specs.Gives.{also_told};
 ghost use Rattle.board_gives.specs.Makes.{IsRootBelow, rooted_with};
 ghost use Rattle.board_terms.specs.Gives.{frame_left};
@@ -8,7 +8,6 @@ ghost use Rattle.board_terms.specs.Makes.{frame_with_root, needs_of_root};
 ghost use Rattle.logical_map.specs.Maps.{opened};
 ghost use Rattle.machine_terms.specs.Contents.{kinds_of};
 ghost use Rattle.machine_terms.specs.Makes.{fields_needed};
-ghost use Rattle.machine_terms.specs.Segments.{segment};
 ghost use Rattle.physical_instances.specs.Kept.{map_of};
 ghost use Rattle.plain_values.specs.Points.{points};
 ghost use Rattle.region_finder.specs.Forests.{IsForest};
@@ -21,7 +20,7 @@ use crate::telling::{tell, untell};
 use board_terms::{Extent, Operation, Wait};
 use index_spaces::Ispace;
 use lane_kernels::{FieldKind, Mode};
-use machine_terms::{After, Frame, Ran, RegionValue, Value};
+use machine_terms::{After, Frame, RegionValue, Value};
 use physical_instances::Contents;
 use plain_values::{Sequence, Shared};
 use point_sets::PointSet;
@@ -40,8 +39,8 @@ pub fn make_root(
     operation: &mut Operation,
     space: Ispace,
     fields: u32,
-    ran: Ran,
-) -> Result<(), (AllocError, Ran)>
+    after: &mut After,
+) -> Result<(), AllocError>
     requires { All (IsRootBelow tree.old.roots) (map_of contents.old) }
     ensures tree { OnOk result (tree.new ≡ with_root tree.old (points space)) }
     ensures grows { Grows tree.old tree.new }
@@ -50,31 +49,19 @@ pub fn make_root(
     ensures map { OnOk result (map_of contents.new
         ≡ opened tree.old.roots (points space) (kinds_of code.now fields) (map_of contents.old)) }
     ensures operation { OnOk result (operation.new
-        ≡ rooted_with code.now tree.old space fields operation.old (segment ran)) }
+        ≡ rooted_with code.now tree.old space fields operation.old after.old) }
     ensures unchanged { OnErr result (operation.new ≡ operation.old) }
     ensures same { OnErr result ((tree.new ≡ tree.old) × (map_of contents.new ≡ map_of contents.old)) }
     ensures as_many { OnErr result (roots.new.items ≡ roots.old.items) }
-    ensures handed { IfErr result (λ e. e.1 ≡ ran) }
+    ensures handed { OnErr result (after.new ≡ after.old) }
 {
-    match prepare_root(
-        alloc,
-        code,
-        tree,
-        roots,
-        contents,
-        operation,
-        space,
-        fields,
-        ran.after(),
-    ) {
-        Ok(frame) => {
-            leave(alloc, operation, ran.into_after());
-            operation.frame = frame;
-            operation.wait = Wait::Nothing;
-            Ok(())
-        }
-        Err(failed) => Err((failed, ran)),
-    }
+    let frame = prepare_root(
+        alloc, code, tree, roots, contents, operation, space, fields, after,
+    )?;
+    leave(alloc, operation, after);
+    operation.frame = frame;
+    operation.wait = Wait::Nothing;
+    Ok(())
 }
 
 /// Makes the root, tells the text, and answers the frame with the root.
@@ -104,17 +91,67 @@ fn prepare_root(
     ensures as_many { OnErr result (roots.new.items ≡ roots.old.items) }
 {
     let points = space.points(alloc)?;
-    let left = copy_left(alloc, operation, after)?;
-    let frame = frame_with_root(alloc, code, tree, &points, space, fields, left)?;
-    tell(alloc, operation, after.text.as_slice())?;
+    let frame = rooted_frame(alloc, code, tree, &points, space, fields, operation, after)?;
     let extent = Extent {
         space: fields,
         count: space.volume(),
     };
+    let text = after.text.as_slice();
+    tell_root(
+        alloc, code, tree, roots, contents, operation, points, extent, text,
+    )?;
+    Ok(frame)
+}
+
+/// The frame that a segment left an operation, with the next root of the tree.
+fn rooted_frame(
+    alloc: Global,
+    code: &Code,
+    tree: &Forest,
+    set: &PointSet,
+    space: Ispace,
+    fields: u32,
+    operation: &Operation,
+    after: &After,
+) -> Result<Frame, AllocError>
+    requires { set.now ≡ points space }
+    ensures { IfOk result (λ f. f ≡ frame_with_root code.now (record { 0 = tree.now.roots }) (length tree.now.nodes)
+        space fields (frame_left operation.now.frame after.now.frame)) }
+{
+    let mut frame = copy_left(alloc, operation, after)?;
+    push_root(alloc, code, tree, set, space, fields, &mut frame)?;
+    Ok(frame)
+}
+
+/// Tells the text, and a root is there.
+fn tell_root(
+    alloc: Global,
+    code: &Code,
+    tree: &mut Forest,
+    roots: &mut Vec<Extent>,
+    contents: &mut Contents,
+    operation: &mut Operation,
+    points: PointSet,
+    extent: Extent,
+    text: &[u8],
+) -> Result<(), AllocError>
+    requires { All (IsRootBelow tree.old.roots) (map_of contents.old) }
+    ensures tree { OnOk result (tree.new ≡ with_root tree.old points) }
+    ensures grows { Grows tree.old tree.new }
+    ensures forest { OnOk result (IsForest tree.old) }
+    ensures roots { OnOk result (roots.new.items ≡ roots.old.items ++ extent ∷ []) }
+    ensures map { OnOk result (map_of contents.new
+        ≡ opened tree.old.roots points (kinds_of code.now extent.space) (map_of contents.old)) }
+    ensures told { OnOk result (operation.new ≡ also_told operation.old text.now) }
+    ensures unchanged { OnErr result (operation.new ≡ operation.old) }
+    ensures same { OnErr result ((tree.new ≡ tree.old) × (map_of contents.new ≡ map_of contents.old)) }
+    ensures as_many { OnErr result (roots.new.items ≡ roots.old.items) }
+{
+    tell(alloc, operation, text)?;
     match open_root(alloc, code, tree, roots, contents, points, extent) {
-        Ok(()) => Ok(frame),
+        Ok(()) => Ok(()),
         Err(failed) => {
-            untell(operation, after.text.as_slice());
+            untell(operation, text);
             Err(failed)
         }
     }
@@ -177,31 +214,28 @@ fn kinds_in(alloc: Global, fields: &[FieldCode]) -> Result<Vec<FieldKind>, Alloc
     Ok(kinds)
 }
 
-/// The frame of the task that makes the next root of the tree.
-fn frame_with_root(
+/// The next root of the tree is on the stack of a frame, which needs its fields.
+fn push_root(
     alloc: Global,
     code: &Code,
     tree: &Forest,
     set: &PointSet,
     space: Ispace,
     fields: u32,
-    frame: Frame,
-) -> Result<Frame, AllocError>
+    frame: &mut Frame,
+) -> Result<(), AllocError>
     requires { set.now ≡ points space }
-    ensures { IfOk result (λ f. f ≡ frame_with_root code.now (record { 0 = tree.now.roots }) (length tree.now.nodes) space fields frame) }
+    ensures { OnOk result (frame.new ≡ frame_with_root code.now (record { 0 = tree.now.roots }) (length tree.now.nodes) space fields frame.old) }
 {
     let (root, node) = tree.tree().next();
-    let region = RegionValue {
+    let needed = fields_needed(code, space.volume(), fields);
+    add_needs(&mut frame.needs.items, root, node, needed)?;
+    frame.own.push(root)?;
+    frame.stack.push(Value::Region(RegionValue {
         root,
         node,
         points: Shared::new(alloc, set.copy()?)?,
-    };
-    let mut behind = frame;
-    let needed = fields_needed(code, space.volume(), fields);
-    add_needs(&mut behind.needs.items, root, node, needed)?;
-    behind.own.push(root)?;
-    behind.stack.push(Value::Region(region))?;
-    Ok(behind)
+    }))
 }
 
 /// How many fields of a new root are needed: none where it has no points.

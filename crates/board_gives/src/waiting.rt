@@ -1,6 +1,6 @@
 //! Operations that wait for a part or for a child behind a segment.
 
-ghost use Rattle.std.specs.Prelude.{◌≡◌, ◌==◌, ◌&&◌, All, IfErr, IfOk, OnErr, OnOk, filter, slice_get};
+ghost use Rattle.std.specs.Prelude.{◌≡◌, ◌==◌, ◌&&◌, All, IfOk, OnErr, OnOk, filter, slice_get};
 ghost use Rattle.board_gives.specs.Gives.{IsIssuedBy, also_told, parked_with};
 ghost use Rattle.board_terms.specs.declared.operation.Wait.TheVariants as wait_term;
 ghost use Rattle.board_terms.specs.Gives.{is_on, waits_for};
@@ -8,7 +8,6 @@ ghost use Rattle.dependence_graph.specs.Graphs.{parked};
 ghost use Rattle.dependence_graph.specs.Knots.{knot_at};
 ghost use Rattle.dependence_graph.specs.declared.stage.Stage.TheVariants.{Begun};
 ghost use Rattle.dependence_graph.specs.declared.stage.Waiting.TheVariants as graph_term;
-ghost use Rattle.machine_terms.specs.Segments.{segment};
 ghost use Rattle.region_finder.specs.Listings.{IsListingOf};
 ghost use Rattle.region_tree.specs.Needs.{AreNeeds};
 
@@ -17,7 +16,7 @@ use crate::parking::{Waits, park};
 use crate::telling::{tell, untell};
 use board_terms::{Operation, Wait};
 use dependence_graph::Waiting;
-use machine_terms::Ran;
+use machine_terms::After;
 use plain_values::Sequence;
 use region_forest::Forest;
 use region_tree::{Needs, OpNumber, RootId};
@@ -32,28 +31,24 @@ pub fn want(
     op: OpNumber,
     root: RootId,
     field: u8,
-    ran: Ran,
-) -> Result<(), (AllocError, Ran)>
+    after: &mut After,
+) -> Result<(), AllocError>
     requires begun { (knot_at graph.old.knots op.0).stage ≡ Begun }
     requires listing { IsListingOf tree.now graph.old.listing }
     requires needs { AreNeeds tree.now operation.old.frame.needs.items }
     ensures operation { OnOk result (operation.new
-        ≡ parked_with operation.old (segment ran) (wait_term.Part root field)) }
+        ≡ parked_with operation.old after.old (wait_term.Part root field)) }
     ensures graph { OnOk result (graph.new ≡ parked tree.now graph.old op.0
         (graph_term.Part (record { items = filter (is_on root.0 field) operation.old.frame.needs.items }))) }
     ensures unchanged { OnErr result (operation.new ≡ operation.old) }
     ensures same { OnErr result (graph.new ≡ graph.old) }
-    ensures handed { IfErr result (λ e. e.1 ≡ ran) }
+    ensures handed { OnErr result (after.new ≡ after.old) }
 {
-    let text = ran.after().text.as_slice();
-    match prepare_want(alloc, tree, graph, operation, op, root, field, text) {
-        Ok(()) => {
-            leave(alloc, operation, ran.into_after());
-            operation.wait = Wait::Part { root, field };
-            Ok(())
-        }
-        Err(failed) => Err((failed, ran)),
-    }
+    let text = after.text.as_slice();
+    prepare_want(alloc, tree, graph, operation, op, root, field, text)?;
+    leave(alloc, operation, after);
+    operation.wait = Wait::Part { root, field };
+    Ok(())
 }
 
 /// Tells the text, and lets an operation wait for a part in the graph.
@@ -110,28 +105,26 @@ pub fn await_child(
     operation: &mut Operation,
     op: OpNumber,
     place: u64,
-    ran: Ran,
-) -> Result<(), (AllocError, Ran)>
+    after: &mut After,
+) -> Result<(), AllocError>
     requires begun { (knot_at graph.old.knots op.0).stage ≡ Begun }
     requires listing { IsListingOf tree.now graph.old.listing }
     requires own { All (IsIssuedBy graph.old.knots op.0) operation.old.children }
     ensures operation { OnOk result (operation.new
-        ≡ parked_with operation.old (segment ran) (wait_term.Child place)) }
+        ≡ parked_with operation.old after.old (wait_term.Child place)) }
     ensures graph { OnOk result (graph.new ≡ parked tree.now graph.old op.0
         (waits_for (slice_get operation.old.children place))) }
     ensures unchanged { OnErr result (operation.new ≡ operation.old) }
     ensures same { OnErr result (graph.new ≡ graph.old) }
-    ensures handed { IfErr result (λ e. e.1 ≡ ran) }
+    ensures handed { OnErr result (after.new ≡ after.old) }
 {
-    if let Err(failed) = tell(alloc, operation, ran.after().text.as_slice()) {
-        return Err((failed, ran));
-    }
+    tell(alloc, operation, after.text.as_slice())?;
     let on = waits_for(operation.children.as_slice(), place);
     match park(graph, tree, op, on) {
         Ok(()) => (),
         Err(_) => unreachable!(),
     }
-    leave(alloc, operation, ran.into_after());
+    leave(alloc, operation, after);
     operation.wait = Wait::Child(place);
     Ok(())
 }

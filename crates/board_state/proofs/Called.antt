@@ -1,6 +1,6 @@
 -- What a state keeps behind calls that are issued.
 use Rattle.std.specs.Prelude.{◌≢◌, IfSome, OnErr, OnOk, Result, Ok, Err}
-use Rattle.std.proofs.Common.{◌≡◌, ◌<◌, ◌≤◌, ◌∙◌, ◌+◌, ◌-◌, ◌++◌, ℕ, zero, suc, Bool, true, false, List, [], ◌∷◌, All, Some, ap, arith, get_or, inl, inr, length, map, refl, set, subst, sym, ⊎_elim}
+use Rattle.std.proofs.Common.{◌≡◌, ◌<◌, ◌≤◌, ◌∙◌, ◌+◌, ◌-◌, ◌++◌, ℕ, zero, suc, Bool, true, false, List, [], ◌∷◌, All, ap, arith, get_or, inl, inr, length, map, refl, set, subst, sym, ⊎_elim}
 use Rattle.std.proofs.lemmas.Bool.{cases_lt, false≢true}
 use Rattle.std.proofs.lemmas.Bool.Decides.{eqb_tells}
 use Rattle.std.proofs.lemmas.List.{get_or-append_right, get_or-set_other, get_or-set_same, get_or_append_left, length-append, length-map, length-set}
@@ -16,8 +16,8 @@ use Rattle.dependence_graph.specs.Entries.{Knot}
 use Rattle.dependence_graph.specs.Graphs.{Waits, issued, knot_on}
 use Rattle.dependence_graph.specs.Knots.{knot_at, number}
 use Rattle.dependence_graph.specs.declared.stage.Stage.TheVariants.{Begun, Parked, Stopped}
-use Rattle.machine_terms.specs.declared.frame.Before.{Before}
 use Rattle.machine_terms.specs.declared.frame.Frame.{Frame}
+use Rattle.machine_terms.specs.declared.outcome.After.{After}
 use Rattle.machine_terms.specs.Segments.{segment}
 use Rattle.task_code.specs.declared.code.Code.{Code}
 use Rattle.board_terms.specs.Calls.{needs_of}
@@ -30,11 +30,11 @@ use Rattle.board_calls.specs.Calls.{HasNeedsOf, activity_by, are_all, called_wai
 use Rattle.board_gives.specs.Gives.{IsIssuedBy}
 use Rattle.board_gives.specs.Makes.{IsRootBelow}
 use Rattle.board_state.proofs.Keeping.{StaysBut, stays_set}
-use Rattle.board_state.proofs.Gives.{left_needs, out_needs, out_there, own_needs}
+use Rattle.board_state.proofs.Gives.{left_needs, left_there, out_needs, own_needs, run_from}
 use Rattle.board_state.proofs.Roots.{live_with_parts}
 use Rattle.board_state.proofs.Segments.{segment_needs}
 use Rattle.board_state.specs.Kept.{HasNeeds, IsKept, IsLent, IsLentWith, is_claimed, state_of}
-use Rattle.board_state.specs.Steps.{before_out, called_with}
+use Rattle.board_state.specs.Steps.{HasLeft, called_with}
 use Rattle.board_terms.specs.Gives.{with_parts}
 use Rattle.std.proofs.lemmas.Option.{IfSome_then}
 
@@ -172,8 +172,8 @@ module _ (s : State) (k : ℕ) (o : Operation) (fs : List Frame) (w : Waits) (ke
 
 -- ---- calls of what is out
 
-abbrev frames_given : Code → ℕ → State → Before → List Frame
-frames_given code turns s b = frames_of code turns s.tree s.map (segment b)
+abbrev frames_given : Code → ℕ → State → After → List Frame
+frames_given code turns s a = frames_of code turns s.tree s.map a
 
 free_by : (all : Bool) → is_claimed (activity_by all) ≡ false
 free_by true = refl
@@ -187,47 +187,51 @@ listing_by : (all : Bool) (t : RegionTree) (g : Waits) (k : ℕ) → IsListingOf
 listing_by true t g k h = h
 listing_by false t g k h = h
 
-pub frame_needs : (s : State) (k : ℕ) (b : Before) → IsKept s → before_out (operation_at s k).activity ≡ Some b →
-    IfSome (segment b).frame (HasNeedsOf s.tree)
-frame_needs s k b kept e = IfSome_then (segment b).frame (segment_needs b)
-    (λ g h. subst (λ (n : Needs). AreNeeds s.tree n.items) (sym (h ∙ out_needs s k b kept e)) (own_needs s k kept (out_there s k b e)))
+pub frame_needs : (s : State) (k : ℕ) (a : After) → IsKept s → HasLeft (operation_at s k).activity a →
+    IfSome a.frame (HasNeedsOf s.tree)
+frame_needs s k a kept l =
+    let run = run_from (operation_at s k).activity a l in
+    let b = run.0 in
+    let framed : IfSome (segment b).frame (HasNeedsOf s.tree) = IfSome_then (segment b).frame (segment_needs b)
+    (λ g h. subst (λ (n : Needs). AreNeeds s.tree n.items) (sym (h ∙ out_needs s k b kept run.1.0)) (own_needs s k kept (left_there s k a l))) in
+    subst (λ (x : After). IfSome x.frame (HasNeedsOf s.tree)) (sym run.1.1) framed
 
-waits_more : (s : State) (k : ℕ) (b : Before) (fs : List Frame) (all : Bool) → IsKept s → before_out (operation_at s k).activity ≡ Some b →
+waits_more : (s : State) (k : ℕ) (a : After) (fs : List Frame) (all : Bool) → IsKept s → HasLeft (operation_at s k).activity a →
     HasMore k (length fs) s.waits.knots (called_waits s.tree s.waits (number k) fs all).knots
-waits_more s k b fs all kept e =
+waits_more s k a fs all kept l =
     let issued_knots = issued s.tree s.waits (number k) (needs_of fs) in
     let grown = size_covered s.tree (number k) (needs_of fs) s.waits in
-    more_waiting all (length fs) s.waits.knots issued_knots k (omega (arith, grown, out_there s k b e, kept.counted))
+    more_waiting all (length fs) s.waits.knots issued_knots k (omega (arith, grown, left_there s k a l, kept.counted))
     (subst (λ (n : ℕ). HasMore k n s.waits.knots issued_knots.knots) (length-map fs (λ (f : Frame). f.needs))
     (more_issued s.tree (number k) (needs_of fs) s.waits))
 
-pub calls_kept : (code : Code) (turns : ℕ) (s : State) (k : ℕ) (b : Before) → IsKept s → before_out (operation_at s k).activity ≡ Some b →
-    IsKept (called_with code turns s k (segment b))
-calls_kept code turns s k b kept e =
-    let fs = frames_given code turns s b in
-    let all = are_all code turns s.tree s.map (segment b) in
-    let framed = frames_of_need code turns s.tree s.map (segment b) in
-    let o = calling (operation_at s k) (segment b) (length s.operations) (length fs) all in
+pub calls_kept : (code : Code) (turns : ℕ) (s : State) (k : ℕ) (a : After) → IsKept s → HasLeft (operation_at s k).activity a →
+    IsKept (called_with code turns s k a)
+calls_kept code turns s k a kept l =
+    let fs = frames_given code turns s a in
+    let all = are_all code turns s.tree s.map a in
+    let framed = frames_of_need code turns s.tree s.map a in
+    let o = calling (operation_at s k) a (length s.operations) (length fs) all in
     let w = called_waits s.tree s.waits (number k) fs all in
-    called_kept s k o fs w kept (out_there s k b e) (waits_more s k b fs all kept e) (with_parts (segment b).parts s.map)
-    (left_needs s k b kept e) framed (free_by all) (lent_by o.frame.needs all) refl
+    called_kept s k o fs w kept (left_there s k a l) (waits_more s k a fs all kept l) (with_parts a.parts s.map)
+    (left_needs s k a kept l) framed (free_by all) (lent_by o.frame.needs all) refl
     (listing_by all s.tree (issued s.tree s.waits (number k) (needs_of fs)) k
     (listing_issued s.tree (number k) (needs_of fs) s.waits (all_need s.tree fs framed) kept.listing))
-    (live_with_parts s.tree.roots (segment b).parts s.map kept.live)
+    (live_with_parts s.tree.roots a.parts s.map kept.live)
 
 -- the same by its parts
-pub calls_stay : {A E : Type 0} (code : Code) (turns : ℕ) (s : State) (k : ℕ) (b : Before) (r : Result A E) (os : List Operation) (w : Waits)
-    (roots : LogicalMap) → IsKept s → before_out (operation_at s k).activity ≡ Some b →
-    OnOk r (os ≡ (called_with code turns s k (segment b)).operations) → OnOk r (w ≡ (called_with code turns s k (segment b)).waits) →
-    OnOk r (roots ≡ (called_with code turns s k (segment b)).map) → OnErr r (os ≡ s.operations) → OnErr r ((w ≡ s.waits) × (roots ≡ s.map)) →
+pub calls_stay : {A E : Type 0} (code : Code) (turns : ℕ) (s : State) (k : ℕ) (a : After) (r : Result A E) (os : List Operation) (w : Waits)
+    (roots : LogicalMap) → IsKept s → HasLeft (operation_at s k).activity a →
+    OnOk r (os ≡ (called_with code turns s k a).operations) → OnOk r (w ≡ (called_with code turns s k a).waits) →
+    OnOk r (roots ≡ (called_with code turns s k a).map) → OnErr r (os ≡ s.operations) → OnErr r ((w ≡ s.waits) × (roots ≡ s.map)) →
     IsKept (state_of s.tree s.roots roots os w s.turns)
-calls_stay code turns s k b (Ok a) os w roots kept e f g h x y =
-    let t = called_with code turns s k (segment b) in
+calls_stay code turns s k a (Ok v) os w roots kept l f g h x y =
+    let t = called_with code turns s k a in
     subst (λ (us : List Operation). IsKept (state_of s.tree s.roots roots us w s.turns)) (sym f)
     (subst (λ (v : Waits). IsKept (state_of s.tree s.roots roots t.operations v s.turns)) (sym g)
     (subst (λ (m : LogicalMap). IsKept (state_of s.tree s.roots m t.operations t.waits s.turns)) (sym h)
-    (calls_kept code turns s k b kept e)))
-calls_stay code turns s k b (Err c) os w roots kept e f g h x y =
+    (calls_kept code turns s k a kept l)))
+calls_stay code turns s k a (Err c) os w roots kept l f g h x y =
     subst (λ (us : List Operation). IsKept (state_of s.tree s.roots roots us w s.turns)) (sym x)
     (subst (λ (v : Waits). IsKept (state_of s.tree s.roots roots s.operations v s.turns)) (sym y.0)
     (subst (λ (m : LogicalMap). IsKept (state_of s.tree s.roots m s.operations s.waits s.turns)) (sym y.1) kept))

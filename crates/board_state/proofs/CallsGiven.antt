@@ -4,13 +4,12 @@ use Rattle.std.proofs.Common.{◌≡◌, ◌<◌, ◌∙◌, ◌++◌, ℕ, Bool
 use Rattle.std.proofs.lemmas.List.{get_or-set_same, length-set, set-set}
 use Rattle.dependence_graph.specs.Knots.{number}
 use Rattle.task_code.specs.declared.code.Code.{Code}
-use Rattle.machine_terms.specs.declared.frame.Before.{Before}
 use Rattle.machine_terms.specs.declared.frame.Frame.{Frame}
 use Rattle.machine_terms.specs.declared.outcome.After.{After}
 use Rattle.machine_terms.specs.declared.outcome.CallOut.{CallOut}
 use Rattle.machine_terms.specs.declared.outcome.Yield.{Yield}
 use Rattle.machine_terms.specs.declared.outcome.Yield.TheVariants as yield
-use Rattle.machine_terms.specs.Segments.{frame_after, segment, stop_of}
+use Rattle.machine_terms.specs.Segments.{frame_after, stop_of}
 use Rattle.board_terms.specs.declared.operation.Operation.{Operation}
 use Rattle.board_terms.specs.declared.operation.Wait.TheVariants.{Nothing}
 use Rattle.board_terms.specs.Calls.{called, called_in, frames_before}
@@ -20,7 +19,8 @@ use Rattle.board_calls.proofs.Maps.{same_fields}
 use Rattle.board_calls.proofs.Same.{same_frames}
 use Rattle.board_calls.specs.Calls.{activity_by, are_all, called_operations, called_waits, caller_in, calls_in, frames_by, frames_in, frames_of, numbers_from, place}
 use Rattle.board_state.proofs.Given.{changed_twice, left_at}
-use Rattle.board_state.specs.Steps.{behind, called_with, given_by}
+use Rattle.board_state.proofs.Gives.{left_there, run_from}
+use Rattle.board_state.specs.Steps.{HasLeft, behind, called_with, given_by}
 
 -- ---- parts that go back
 
@@ -93,14 +93,17 @@ issued_is s k a fs true b =
 issued_is s k a fs false b =
     ap (λ (os : List Operation). record (called_by_parts s k a fs false) { operations = os }) (operations_are s k a fs false b)
 
-pub given_calls : (code : Code) (turns : ℕ) (s t : State) (k : ℕ) (b : Before) (cs : List CallOut) → k < length s.operations →
-    (segment b).ends ≡ yield.Calls cs → t ≡ called_with code turns s k (segment b) → t ≡ given_by code turns s k (segment b)
-given_calls code turns s t k b cs there e h =
-    let a = segment b in
+pub given_calls : (code : Code) (turns : ℕ) (s t : State) (k : ℕ) (a : After) (cs : List CallOut) → HasLeft (operation_at s k).activity a →
+    a.ends ≡ yield.Calls cs → t ≡ called_with code turns s k a → t ≡ given_by code turns s k a
+given_calls code turns s t k a cs l e h =
+    let there = left_there s k a l in
+    let run = run_from (operation_at s k).activity a l in
+    let b = run.0 in
     let u = given_back s k a in
     let f = (stop_of b).machine.frame in
     let fs = frames_of code turns s.tree s.map a in
-    let left : a.frame ≡ Some f = ap (λ (y : Yield). frame_after y f) e in
+    let left : a.frame ≡ Some f = ap (λ (x : After). x.frame) run.1.1
+    ∙ ap (λ (y : Yield). frame_after y f) (ap (λ (x : After). x.ends) (sym run.1.1) ∙ e) in
     let calls : cs ≡ calls_in a.ends = sym (ap calls_in e) in
     h ∙ sym (ap (λ (y : Yield). yielded code turns (behind s k a) k y) e
     ∙ ap (λ (x : State). called code turns x k cs) (back_is s k a there)

@@ -1,6 +1,6 @@
 -- That what methods make of a state is what board_terms says of a segment that is given back.
 use Rattle.std.specs.Prelude.{OnOk, Result, Ok, Err}
-use Rattle.std.proofs.Common.{◌≡◌, ◌<◌, ◌∙◌, ◌++◌, ◌∷◌, ℕ, Bool, true, false, List, [], Option, Some, ℤ, ap, cond, filter, length, slice_get, subst, sym}
+use Rattle.std.proofs.Common.{◌≡◌, ◌<◌, ◌∙◌, ◌++◌, ◌∷◌, ℕ, Bool, true, false, List, [], Option, ℤ, ap, cond, filter, length, slice_get, subst, sym}
 use Rattle.std.proofs.lemmas.List.{get_or-set_same, length-set, set-set}
 use Rattle.region_tree.specs.declared.needs.Needs.{Needs}
 use Rattle.region_tree.specs.declared.tree.RootId.{RootId}
@@ -33,8 +33,8 @@ use Rattle.board_terms.specs.States.{State, no_operation, operation_at, with_ope
 use Rattle.board_state.specs.Kept.{IsKept}
 use Rattle.board_terms.specs.Makes.{frame_with_root, partition_made}
 use Rattle.board_gives.specs.Makes.{frame_with_partition, may_part}
-use Rattle.board_state.specs.Steps.{before_out, behind, ended_in, given_by, parked_in, parted_in, parting_in, rooted_in}
-use Rattle.board_state.proofs.Gives.{out_needs, out_there}
+use Rattle.board_state.specs.Steps.{HasLeft, behind, ended_in, given_by, parked_in, parted_in, parting_in, rooted_in}
+use Rattle.board_state.proofs.Gives.{left_there, out_needs, run_from}
 
 pub ok_then : {A E : Type 0} (r : Result A E) (P Q : Type 0) → OnOk r P → (P → Q) → OnOk r Q
 ok_then (Ok a) P Q p f = f p
@@ -102,20 +102,24 @@ left_needs : (b : Before) (f : Frame) (root : RootId) (field : ℕ) → (segment
 left_needs b f root field e =
     ap (λ (y : Yield). (frame_left f (frame_after y (stop_of b).machine.frame)).needs) e ∙ (stop_fixed b).needs
 
-pub given_want : (code : Code) (turns : ℕ) (s t : State) (k : ℕ) (b : Before) (root : RootId) (field : ℕ) → IsKept s →
-    before_out (operation_at s k).activity ≡ Some b → (segment b).ends ≡ yield.Want root field →
-    t ≡ parked_in s k (segment b) (wait.Part root field)
+pub given_want : (code : Code) (turns : ℕ) (s t : State) (k : ℕ) (a : After) (root : RootId) (field : ℕ) → IsKept s →
+    HasLeft (operation_at s k).activity a → a.ends ≡ yield.Want root field →
+    t ≡ parked_in s k a (wait.Part root field)
     (graph.Part (record { items = filter (is_on root.0 field) (operation_at s k).frame.needs.items })) →
-    t ≡ given_by code turns s k (segment b)
-given_want code turns s t k b root field kept out e h =
-    let here = out_there s k b out in
-    let needs : (frame_left (operation_at s k).frame (segment b).frame).needs ≡ (operation_at s k).frame.needs =
-    left_needs b (operation_at s k).frame root field e ∙ out_needs s k b kept out in
-    h ∙ sym (ap (λ (y : Yield). yielded code turns (behind s k (segment b)) k y) e
-    ∙ ap (λ (x : Operation). parked_for (behind s k (segment b)) k (wait.Part root field) (graph.Part (needs_on x.frame root.0 field))) (left_at s k (segment b) here)
-    ∙ ap (λ (n : Needs). parked_for (behind s k (segment b)) k (wait.Part root field)
+    t ≡ given_by code turns s k a
+given_want code turns s t k a root field kept l e h =
+    let here = left_there s k a l in
+    let run = run_from (operation_at s k).activity a l in
+    let b = run.0 in
+    let needs : (frame_left (operation_at s k).frame a.frame).needs ≡ (operation_at s k).frame.needs =
+    ap (λ (x : After). (frame_left (operation_at s k).frame x.frame).needs) run.1.1
+    ∙ left_needs b (operation_at s k).frame root field (ap (λ (x : After). x.ends) (sym run.1.1) ∙ e)
+    ∙ out_needs s k b kept run.1.0 in
+    h ∙ sym (ap (λ (y : Yield). yielded code turns (behind s k a) k y) e
+    ∙ ap (λ (x : Operation). parked_for (behind s k a) k (wait.Part root field) (graph.Part (needs_on x.frame root.0 field))) (left_at s k a here)
+    ∙ ap (λ (n : Needs). parked_for (behind s k a) k (wait.Part root field)
     (graph.Part (record { items = filter (is_on root.0 field) n.items }))) needs
-    ∙ parked_is s k (segment b) (wait.Part root field)
+    ∙ parked_is s k a (wait.Part root field)
     (graph.Part (record { items = filter (is_on root.0 field) (operation_at s k).frame.needs.items })) here)
 
 -- ---- it made something

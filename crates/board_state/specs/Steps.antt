@@ -1,5 +1,5 @@
 -- What steps make of a state, where they may be made.
-use Rattle.std.specs.Prelude.{ℕ, List, [], ◌∷◌, ◌++◌, Bool, true, false, cond, ◌==◌, ◌&&◌, ◌-◌, Option, Some, None, nat_lt}
+use Rattle.std.specs.Prelude.{◌≡◌, ℕ, List, [], ◌∷◌, ◌++◌, Bool, true, false, cond, ◌==◌, ◌&&◌, ◌-◌, Option, Some, None, nat_lt}
 use Rattle.plain_values.specs.Points.{points}
 use Rattle.region_tree.specs.Trees.{with_partition, with_root}
 use Rattle.logical_map.specs.Fills.{Filling, chunk, chunk_moved, elements_of}
@@ -25,6 +25,7 @@ use Rattle.dependence_graph.specs.declared.stage.Waiting.{Waiting}
 use Rattle.machine_terms.specs.declared.outcome.After.{After}
 use Rattle.machine_terms.specs.declared.value.RegionValue.{RegionValue}
 use Rattle.machine_terms.specs.Contents.{kinds_of}
+use Rattle.machine_terms.specs.Segments.{segment}
 
 -- ---- claims
 
@@ -85,6 +86,11 @@ before_out (activity.Out claim before) = Some before
 before_out _ = None
 
 -- ---- gives
+
+-- an operation that is out, whose segment left this
+abbrev pub HasLeft : Activity → After → Type 0
+HasLeft (activity.Out claim before) a = a ≡ segment before
+HasLeft _ a = ⊥
 
 -- the operation is as a segment left it
 abbrev pub behind : State → ℕ → After → State

@@ -100,10 +100,9 @@ impl BoardState {
     {
         let alloc = *self.operations.allocator();
         let operation = &self.operations[op.0 as usize];
-        let frame = self.frame_behind(operation)?;
-        let mut parts = copy_parts(alloc, operation.parts.as_slice())?;
-        add_filled(&mut parts, fill)?;
+        let parts = parts_with(alloc, operation.parts.as_slice(), fill)?;
         let code = code.share()?;
+        let frame = self.frame_behind(operation)?;
         Shared::new(alloc, Before { code, frame, parts })
     }
 
@@ -112,13 +111,27 @@ impl BoardState {
         ensures { IfOk result (λ f. f ≡ frame_behind self.now operation.now operation.now.wait) }
     {
         let alloc = *self.operations.allocator();
-        let frame = operation.frame.copy(alloc)?;
+        let mut frame = operation.frame.copy(alloc)?;
+        self.settle_child(alloc, operation, &mut frame)?;
+        Ok(frame)
+    }
+
+    /// The value of a child that an operation waited for stands in a copy of its frame.
+    fn settle_child(
+        &self,
+        alloc: Global,
+        operation: &Operation,
+        frame: &mut Frame,
+    ) -> Result<(), AllocError>
+        requires { frame.old ≡ operation.now.frame }
+        ensures { OnOk result (frame.new ≡ frame_behind self.now operation.now operation.now.wait) }
+    {
         match operation.wait {
             Wait::Child(place) => {
                 let number = self.value_at(operation.children.as_slice(), place);
-                with_value(alloc, frame, place, number)
+                settle(alloc, frame, place, number)
             }
-            _ => Ok(frame),
+            _ => Ok(()),
         }
     }
 
@@ -153,14 +166,13 @@ impl BoardState {
     }
 }
 
-/// The frame where the value of a child stands in place of it.
-fn with_value(alloc: Global, frame: Frame, child: u64, number: i64) -> Result<Frame, AllocError>
-    ensures { IfOk result (λ f. f ≡ record frame { slots = map (settled child number) frame.slots }) }
+/// The value of a child stands in a frame in place of the child.
+fn settle(alloc: Global, frame: &mut Frame, child: u64, number: i64) -> Result<(), AllocError>
+    ensures { OnOk result (frame.new ≡ record frame.old { slots = map (settled child number) frame.old.slots }) }
 {
-    let mut behind = frame;
-    let slots = mem::replace(&mut behind.slots, Sequence::new(alloc));
-    behind.slots = settled(alloc, child, number, slots)?;
-    Ok(behind)
+    let slots = mem::replace(&mut frame.slots, Sequence::new(alloc));
+    frame.slots = settled(alloc, child, number, slots)?;
+    Ok(())
 }
 
 /// Moves the next elements of a fill.
@@ -194,6 +206,19 @@ fn value_of(activity: &Activity) -> i64
         Activity::Closing(Ending::Value(Some(value))) => *value,
         _ => 0,
     }
+}
+
+/// The same parts once more, and the part that was filled, if any.
+fn parts_with(
+    alloc: Global,
+    parts: &[Part],
+    fill: Option<Fill>,
+) -> Result<Sequence<Part>, AllocError>
+    ensures { IfOk result (λ all. all ≡ parts.now ++ filled_parts fill) }
+{
+    let mut all = copy_parts(alloc, parts)?;
+    add_filled(&mut all, fill)?;
+    Ok(all)
 }
 
 /// The same parts once more.

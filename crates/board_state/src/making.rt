@@ -1,17 +1,16 @@
 //! Segments that are given back with a root or a partition to make.
 
-ghost use Rattle.std.specs.Prelude.{◌≡◌, ℕ, IfErr, IfOk, OnErr, OnOk, Some};
-ghost use Rattle.board_state.specs.Steps.{before_out, given_by, parting_in, rooted_in};
+ghost use Rattle.std.specs.Prelude.{◌≡◌, ℕ, IfOk, OnErr, OnOk};
+ghost use Rattle.board_state.specs.Steps.{HasLeft, given_by, parting_in, rooted_in};
 ghost use Rattle.board_terms.specs.States.{operation_at};
 ghost use Rattle.machine_terms.specs.declared.outcome.Made.TheVariants as made_term;
 ghost use Rattle.machine_terms.specs.declared.outcome.Yield.TheVariants as yield_term;
-ghost use Rattle.machine_terms.specs.Segments.{segment};
 ghost use Rattle.task_code.specs.declared.code.Code.{Code as code_term};
 
 use crate::state::BoardState;
 use board_gives::{make_partition, make_root, wait_for_nothing};
 use index_spaces::Ispace;
-use machine_terms::{Ran, RegionValue};
+use machine_terms::{After, RegionValue};
 use point_sets::PointSet;
 use region_tree::OpNumber;
 use std::alloc::{AllocError, Global};
@@ -25,15 +24,15 @@ impl BoardState {
         code: &Code,
         space: Ispace,
         fields: u32,
-        ran: Ran,
-    ) -> Result<(), (AllocError, Ran)>
-        requires out { before_out (operation_at self.old op.0).activity ≡ Some ran }
-        requires ends { (segment ran).ends ≡ yield_term.Make (made_term.Root space fields) }
-        ensures given { OnOk result ((turns : ℕ) → self.new ≡ given_by code.now turns self.old op.0 (segment ran)) }
+        after: &mut After,
+    ) -> Result<(), AllocError>
+        requires left { HasLeft (operation_at self.old op.0).activity after.old }
+        requires ends { after.old.ends ≡ yield_term.Make (made_term.Root space fields) }
+        ensures given { OnOk result ((turns : ℕ) → self.new ≡ given_by code.now turns self.old op.0 after.old) }
         ensures unchanged { OnErr result (self.new ≡ self.old) }
-        ensures handed { IfErr result (λ e. e.1 ≡ ran) }
+        ensures handed { OnErr result (after.new ≡ after.old) }
     {
-        self.give_rooted(op, code, space, fields, ran)
+        self.give_rooted(op, code, space, fields, after)
     }
 
     /// A segment that makes a partition is given back. Where it may not be made, the operation is broken.
@@ -43,31 +42,31 @@ impl BoardState {
         region: RegionValue,
         sets: Vec<PointSet>,
         disjoint: bool,
-        ran: Ran,
-    ) -> Result<(), (AllocError, Ran)>
-        requires out { before_out (operation_at self.old op.0).activity ≡ Some ran }
-        requires ends { (segment ran).ends ≡ yield_term.Make (made_term.Partition region sets.items disjoint) }
-        ensures given { OnOk result ((code : code_term) (turns : ℕ) → self.new ≡ given_by code turns self.old op.0 (segment ran)) }
+        after: &mut After,
+    ) -> Result<(), AllocError>
+        requires left { HasLeft (operation_at self.old op.0).activity after.old }
+        requires ends { after.old.ends ≡ yield_term.Make (made_term.Partition region sets.items disjoint) }
+        ensures given { OnOk result ((code : code_term) (turns : ℕ) → self.new ≡ given_by code turns self.old op.0 after.old) }
         ensures unchanged { OnErr result (self.new ≡ self.old) }
-        ensures handed { IfErr result (λ e. e.1 ≡ ran) }
+        ensures handed { OnErr result (after.new ≡ after.old) }
     {
-        self.give_parting(op, &region, sets, disjoint, ran)
+        self.give_parting(op, &region, sets, disjoint, after)
     }
 
     /// An operation that is out makes a root, and waits for nothing.
-    #[tactic(auto, using(crate::proofs::Gives::out_there))]
+    #[tactic(auto, using(crate::proofs::Gives::left_there, crate::proofs::Gives::left_begun))]
     fn give_rooted(
         &mut self,
         op: OpNumber,
         code: &Code,
         space: Ispace,
         fields: u32,
-        ran: Ran,
-    ) -> Result<(), (AllocError, Ran)>
-        requires { before_out (operation_at self.old op.0).activity ≡ Some ran }
-        ensures made { OnOk result (self.new ≡ rooted_in code.now space fields self.old op.0 (segment ran)) }
+        after: &mut After,
+    ) -> Result<(), AllocError>
+        requires { HasLeft (operation_at self.old op.0).activity after.old }
+        ensures made { OnOk result (self.new ≡ rooted_in code.now space fields self.old op.0 after.old) }
         ensures unchanged { OnErr result (self.new ≡ self.old) }
-        ensures handed { IfErr result (λ e. e.1 ≡ ran) }
+        ensures handed { OnErr result (after.new ≡ after.old) }
     {
         let alloc = *self.operations.allocator();
         let operation = &mut self.operations[op.0 as usize];
@@ -80,26 +79,26 @@ impl BoardState {
             operation,
             space,
             fields,
-            ran,
+            after,
         )?;
         wait_for_nothing(&mut self.graph, &self.tree, op);
         Ok(())
     }
 
     /// An operation that is out makes a partition, and waits for nothing, or is broken.
-    #[tactic(auto, using(crate::proofs::Gives::out_there))]
+    #[tactic(auto, using(crate::proofs::Gives::left_there, crate::proofs::Gives::left_begun))]
     fn give_parting(
         &mut self,
         op: OpNumber,
         region: &RegionValue,
         sets: Vec<PointSet>,
         disjoint: bool,
-        ran: Ran,
-    ) -> Result<(), (AllocError, Ran)>
-        requires { before_out (operation_at self.old op.0).activity ≡ Some ran }
-        ensures made { OnOk result (self.new ≡ parting_in region.now sets.items disjoint self.old op.0 (segment ran)) }
+        after: &mut After,
+    ) -> Result<(), AllocError>
+        requires { HasLeft (operation_at self.old op.0).activity after.old }
+        ensures made { OnOk result (self.new ≡ parting_in region.now sets.items disjoint self.old op.0 after.old) }
         ensures unchanged { OnErr result (self.new ≡ self.old) }
-        ensures handed { IfErr result (λ e. e.1 ≡ ran) }
+        ensures handed { OnErr result (after.new ≡ after.old) }
     {
         let alloc = *self.operations.allocator();
         let operation = &mut self.operations[op.0 as usize];
@@ -110,7 +109,7 @@ impl BoardState {
             region,
             sets,
             disjoint,
-            ran,
+            after,
         )? {
             wait_for_nothing(&mut self.graph, &self.tree, op);
         }

@@ -42,10 +42,10 @@ fn open_with(alloc: Global, job: &Job, task: &TaskCode) -> Result<BoardState, Al
     if !may_start(job, task) {
         return open_void(alloc);
     }
-    let main = called_by(alloc, OpNumber(0), first_frame(alloc, job, task)?);
     let tree = Forest::new(alloc)?;
     let mut graph = new_graph(alloc)?;
     wait_for_nothing(&mut graph, &tree, OpNumber(0));
+    let main = called_by(alloc, OpNumber(0), first_frame(alloc, job, task)?);
     begun_with(alloc, tree, main, graph)
 }
 
@@ -53,15 +53,15 @@ fn open_with(alloc: Global, job: &Job, task: &TaskCode) -> Result<BoardState, Al
 fn open_void(alloc: Global) -> Result<BoardState, AllocError>
     ensures { IfOk result (λ b. b ≡ void_state) }
 {
+    let tree = Forest::new(alloc)?;
+    let mut graph = new_graph(alloc)?;
+    graph.end(OpNumber(0), How::Failed);
     let mut main = called_by(
         alloc,
         OpNumber(0),
         frame_of_roots(alloc, Sequence::new(alloc)),
     );
     main.activity = Activity::Closing(Ending::Broken);
-    let tree = Forest::new(alloc)?;
-    let mut graph = new_graph(alloc)?;
-    graph.end(OpNumber(0), How::Failed);
     begun_with(alloc, tree, main, graph)
 }
 

@@ -1,6 +1,5 @@
 use Rattle.board_state.proofs.Given.{given_end, ok_then}
-use Rattle.machine_terms.specs.Segments.{segment}
-use Rattle.board_state.proofs.Gives.{out_there}
+use Rattle.board_state.proofs.Gives.{left_there}
 use Rattle.board_state.proofs.state.BoardState.give_end.Goals as goal
 
 pub returns-clause-given : goal.returns-clause-given
@@ -8,4 +7,4 @@ returns-clause-given c =
     let s = c.args.self.now in
     let k = c.args.op.0 in
     ok_then c.give_ended.result _ _ c.give_ended.ensures.ended
-    (λ h code turns. given_end code turns s c.give_ended.new.self k (segment c.args.ran) c.args.value (out_there s k c.args.ran c.requires.out) c.requires.ends h)
+    (λ h code turns. given_end code turns s c.give_ended.new.self k c.args.after.now c.args.value (left_there s k c.args.after.now c.requires.left) c.requires.ends h)

@@ -1,8 +1,8 @@
-use Rattle.std.proofs.Common.{rules, ◌≡◌, ◌∙◌, ap, get_or}
+use Rattle.std.proofs.Common.{rules, ◌≡◌, get_or, subst, sym}
 use Rattle.physical_instances.specs.Kept.{map_of}
 use Rattle.board_terms.specs.States.{State, operation_at}
 use Rattle.board_state.specs.Kept.{state_of}
-use Rattle.board_state.specs.Steps.{before_out}
+use Rattle.board_state.specs.Steps.{HasLeft}
 use Rattle.board_state.proofs.Gives.{ended_stays}
 use Rattle.board_state.proofs.state.BoardState.give_failed.Goals as goal
 
@@ -11,6 +11,6 @@ invariant_of-self c =
     let k = c.args.op.0 in
     let s : State = state_of c.self.inside.tree c.self.inside.roots.items (map_of c.self.inside.contents) c.self.inside.operations.items c.self.inside.graph c.self.inside.turns in
     let there : c.index_mut.result.now ≡ get_or c.self.inside.operations.items c.args.op.0 c.index_mut.result.now = search (rules) in
-    ended_stays s k c.args.ran c.index_mut.result.now c.fail.new.operation c.self.invariant
-    (ap (λ (t : State). before_out (operation_at t k).activity) c.self.view_is ∙ c.requires) there
+    ended_stays s k c.args.after.now c.index_mut.result.now c.fail.new.operation c.self.invariant
+    (subst (λ (t : State). HasLeft (operation_at t k).activity c.args.after.now) (sym c.self.view_is) c.requires) there
     c.fail.result c.args.ending (map_of c.self.inside.contents) c.self.invariant.live c.fail.ensures.ended c.fail.ensures.unchanged

@@ -6,4 +6,4 @@ returns-clause-given c =
     let s = c.args.self.now in
     let k = c.args.op.0 in
     ok_then c.give_wanting.result _ _ c.give_wanting.ensures.parked
-    (λ h code turns. given_want code turns s c.give_wanting.new.self k c.args.ran c.args.root c.args.field c.give_wanting.ensures.kept c.requires.out c.requires.ends h)
+    (λ h code turns. given_want code turns s c.give_wanting.new.self k c.args.after.now c.args.root c.args.field c.give_wanting.ensures.kept c.requires.left c.requires.ends h)
