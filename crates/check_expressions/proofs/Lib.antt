@@ -4,3 +4,4 @@ pub mod Lying
 pub mod Called
 pub mod Members
 pub mod Prefixes
+pub mod Granted

@@ -6,7 +6,7 @@ ghost use Rattle.std.specs.Prelude.{◌≡◌, IfOk, false, flat_map, option_to_
 ghost use Rattle.regent_tree.specs.PlainProgram.{task_of};
 ghost use Rattle.regent_tree.specs.StaticTypes.{task_named};
 ghost use Rattle.regent_tree.specs.Syntax.{Tree};
-ghost use Rattle.regent_tree.specs.Typing.{result_type};
+ghost use Rattle.regent_tree.specs.Typing.{put_in, result_type};
 ghost use Rattle.check_rules.specs.rules.Constraints.{are_not_apart, argument_for, breaks_clause, breaks_constraint, is_not_within};
 ghost use Rattle.check_rules.specs.types.Declarations.{is_no_result_type, params_of};
 ghost use Rattle.check_rules.specs.first.FirstInExpressions.{first_of_call, first_of_standing};
@@ -15,11 +15,11 @@ ghost use Rattle.check_rules.specs.rules.Privileges.{lacks, wanted_by_call, want
 ghost use Rattle.check_rules.specs.first.Rules.{first_in, rule_if};
 ghost use Rattle.check_rules.specs.types.TypedForms.{calling};
 ghost use Rattle.check_rules.specs.types.Sorts.{is_unknown_type, type_at};
-ghost use Rattle.check_rules.specs.rules.Standing.{stand_at};
+ghost use Rattle.check_rules.specs.rules.Standing.{param_spot, stand_at, stands};
 ghost use Rattle.check_rules.specs.rules.Types.{has_no_result};
 ghost use Rattle.check_rules.specs.declared.rule.Rule.TheVariants as rule;
 ghost use Rattle.static_types.specs.Telling.{Anything, Tells};
-ghost use Rattle.check_expressions.specs.Calls.{wanted_for};
+ghost use Rattle.check_expressions.specs.Calls.{first_of_arguments, first_of_demands, wanted_for};
 ghost use Rattle.check_expressions.specs.Seen.{seen};
 ghost use Rattle.check_expressions.specs.Sites.{HoldsDeclared, task_at, tree_at};
 
@@ -33,6 +33,21 @@ use constraint_check::Facts;
 use regent_tree::{Clause, Name, Param, Right, StaticType, Task, TypeTerm, Wanted};
 use static_types::{Stop, is_unknown, misfit_in, mispartition_in, number_type, place_in, put_in};
 use std::alloc::{AllocError, Global};
+
+/// An argument fits its parameter's type, read with the arguments.
+fn stands_as(
+    alloc: Global,
+    facts: &Facts,
+    types: &[StaticType],
+    wanted: &StaticType,
+    t: &StaticType,
+) -> Result<(), Stop>
+    ensures { Tells Anything result (first_of_standing facts.now
+        (stands t.now (param_spot (put_in types.now wanted.now)))) }
+{
+    let wanted = put_in(alloc, types, wanted)?;
+    param(facts, t, &wanted)
+}
 
 /// Each argument stands where its parameter's type, read with the arguments, allows.
 fn stand_at(
@@ -48,8 +63,7 @@ fn stand_at(
         let Some(t) = types.get(place) else {
             return Ok(());
         };
-        let wanted = put_in(alloc, types, wanted)?;
-        param(facts, t, &wanted)?;
+        stands_as(alloc, facts, types, wanted, t)?;
     }
     Ok(())
 }
@@ -191,6 +205,50 @@ fn breaks_constraint(
     breaks_clauses(scope.facts(), task, types)
 }
 
+/// Whether the task may make a call: by its privileges and by what is known of the arguments.
+fn check_demands(
+    site: &Site,
+    scope: &Scope,
+    task: &Task,
+    name: &Name,
+    params: &[StaticType],
+    types: &[StaticType],
+) -> Result<(), Stop>
+    requires holds { HoldsDeclared site.now }
+    requires named { task_of task.now ≡ task_named (tree_at site.now) name.now }
+    requires typed { params.now ≡ params_of (tree_at site.now) name.now }
+    ensures { Tells Anything result
+        (first_of_demands (tree_at site.now) (task_at site.now) (seen scope.now)
+        (calling name.now types.now)) }
+{
+    let lacks = lacks_for_task(site, scope, task, name, params, types)?;
+    Stop::at(lacks, Rule::CallPrivilege)?;
+    let breaks = breaks_constraint(site, scope, task, name, types);
+    Stop::at(breaks, Rule::CallConstraint)
+}
+
+/// Whether as many arguments as there are parameters fit them, and the task may make the call.
+fn check_arguments(
+    site: &Site,
+    scope: &Scope,
+    task: &Task,
+    name: &Name,
+    params: &[StaticType],
+    types: &[StaticType],
+) -> Result<(), Stop>
+    requires holds { HoldsDeclared site.now }
+    requires named { task_of task.now ≡ task_named (tree_at site.now) name.now }
+    requires typed { params.now ≡ params_of (tree_at site.now) name.now }
+    ensures { Tells Anything result
+        (first_of_arguments (tree_at site.now) (task_at site.now) (seen scope.now)
+        (calling name.now types.now)) }
+{
+    stand_at(site.alloc, scope.facts(), params, types)?;
+    Stop::at(misfit_in(types, params, types), Rule::Spaces)?;
+    Stop::at(mispartition_in(types, params, types), Rule::Partition)?;
+    check_demands(site, scope, task, name, params, types)
+}
+
 /// A call of a task, whether it stands alone or in an expression: the task.
 pub fn call<'a>(
     site: &Site<'a>,
@@ -208,13 +266,7 @@ pub fn call<'a>(
     };
     Stop::at(types.len() != task.params.len(), Rule::Count)?;
     let params = declared.params_of(site.alloc, task, name)?;
-    stand_at(site.alloc, scope.facts(), &params, types)?;
-    Stop::at(misfit_in(types, &params, types), Rule::Spaces)?;
-    Stop::at(mispartition_in(types, &params, types), Rule::Partition)?;
-    let lacks = lacks_for_task(site, scope, task, name, &params, types)?;
-    Stop::at(lacks, Rule::CallPrivilege)?;
-    let breaks = breaks_constraint(site, scope, task, name, types);
-    Stop::at(breaks, Rule::CallConstraint)?;
+    check_arguments(site, scope, task, name, &params, types)?;
     Ok(task)
 }
 

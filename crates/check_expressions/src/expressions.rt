@@ -114,13 +114,20 @@ pub fn type_of_name(site: &Site, scope: &Scope, name: &Name) -> Result<StaticTyp
     }
 }
 
+/// The first rule that two operands breach.
+fn check_operated(operator: Operator, left: &StaticType, right: &StaticType) -> Result<(), Stop>
+    ensures { Tells Anything result (first_of_operator (computing operator left.now right.now)) }
+{
+    Stop::at(is_collection(left) || is_collection(right), Rule::Place)?;
+    Stop::at(is_ill_typed_operation(operator, left, right), Rule::Type)
+}
+
 /// The operands of an operator.
 fn operated(operator: Operator, left: StaticType, right: StaticType) -> Result<StaticType, Stop>
     ensures { Tells (λ t. t ≡ known_type_after_operator (computing operator left right)) result
         (first_of_operator (computing operator left right)) }
 {
-    Stop::at(is_collection(&left) || is_collection(&right), Rule::Place)?;
-    Stop::at(is_ill_typed_operation(operator, &left, &right), Rule::Type)?;
+    check_operated(operator, &left, &right)?;
     Ok(after_operator(operator, left, right))
 }
 
