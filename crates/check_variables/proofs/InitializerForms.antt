@@ -1,11 +1,11 @@
 -- What a variable is by an initializer in which no rule is breached.
-use Rattle.std.proofs.Common.{◌≡◌, inl, inr, Bool, true, false, List, [], ◌∷◌, None, Some, Option, Result, Ok, Err, cond, map, refl, ap, sym, ◌∙◌, ◌||◌, ℕ}
+use Rattle.std.proofs.Common.{◌≡◌, subst, inl, inr, Bool, true, false, List, [], ◌∷◌, None, Some, Option, Result, Ok, Err, cond, map, refl, ap, sym, ◌∙◌, ◌||◌, ℕ}
 use Rattle.std.specs.Option.{option_or}
 use Rattle.std.specs.Prelude.{option_to_list}
 use Rattle.regent_tree.specs.Scopes.{Scope, in_scope}
 use Rattle.regent_tree.specs.StaticTypes.{looked_up, place_of_space}
-use Rattle.regent_tree.specs.Syntax.{Expression, TaskTree, Tree, plain_initializer, region_initializer}
-use Rattle.regent_tree.specs.Typing.{kind_of_ispace, known_of_child, owned, type_of}
+use Rattle.regent_tree.specs.Syntax.{Expression, Initializer, TaskTree, Tree, plain_initializer, region_initializer}
+use Rattle.regent_tree.specs.Typing.{kind_of_ispace, known_of_child, known_of_initializer, owned, type_of}
 use Rattle.regent_tree.specs.declared.facts.Known.{Known}
 use Rattle.regent_tree.specs.declared.facts.Known.TheVariants.{Made}
 use Rattle.regent_tree.specs.declared.facts.Term.TheVariants as term
@@ -27,13 +27,13 @@ use Rattle.check_rules.specs.types.Sorts.{is_unknown_type}
 use Rattle.check_rules.specs.rules.Spaces.{misfits_in_type}
 use Rattle.check_rules.specs.rules.Standing.{space_spot, stands}
 use Rattle.check_rules.specs.rules.Types.{is_ill_typed_at_place}
-use Rattle.check_rules.specs.scopes.Variables.{is_flawed_initializer}
+use Rattle.check_rules.specs.scopes.Variables.{is_flawed_initializer, known_initializer}
 use Rattle.check_rules.specs.declared.rule.Rule.{Rule}
 use Rattle.check_rules.specs.declared.rule.Rule.TheVariants as rule
 use Rattle.check_rules.proofs.Laws.{types_as_meant}
 use Rattle.static_types.specs.Telling.{Tells}
 use Rattle.static_types.specs.declared.stop.Stop.{Stop}
-use Rattle.check_variables.specs.Beginning.{IsBegun, first_in_initializer}
+use Rattle.check_variables.specs.Beginning.{IsBegun, begun_by, first_in_initializer}
 use Rattle.check_variables.specs.declared.initializers.Beginning.{Beginning}
 use Rattle.check_variables.proofs.Differences.{operands_none}
 use Rattle.plain_values.proofs.Plain.{option_or_none, option_or_parts}
@@ -200,3 +200,17 @@ plain_begun tree s e b other type known = rw (flawed_plain tree s e other) (
 pub nothing_either : (flawed : Bool) → [] ≡ cond {A = List Known} flawed [] []
 nothing_either true = refl
 nothing_either false = refl
+
+pub begun_tells : (tree : Tree) (s : Scope) (i : Initializer) (t : Result StaticType Stop) (r : Result Beginning Stop) (first : Option Rule) →
+    r ≡ begun_by t → known_of_initializer tree s s.next (Some i) ≡ [] →
+    Tells (λ u. u ≡ known_initializer tree s i) t first → Tells (IsBegun tree s i) r first
+begun_tells tree s i (Ok t) r first is nothing told = subst (λ q. Tells (IsBegun tree s i) q first) (sym is) (
+  told.0,
+  (
+    told.1,
+    nothing_either (is_flawed_initializer tree s i)
+        ∙ ap (λ (ks : List Known). cond (is_flawed_initializer tree s i) [] ks) (sym nothing),
+  ),
+)
+begun_tells tree s i (Err stop) r first is nothing told =
+    subst (λ q. Tells (IsBegun tree s i) q first) (sym is) told

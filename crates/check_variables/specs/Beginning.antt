@@ -1,6 +1,6 @@
 -- Initializers of variables, as the checker goes through them.
 use Rattle.std.specs.Option.{option_or}
-use Rattle.std.specs.Prelude.{Option, Some, [], cond, map, option_to_list, ◌||◌, ◌≡◌, ◌∷◌}
+use Rattle.std.specs.Prelude.{Err, None, Ok, Option, Result, Some, [], cond, map, option_to_list, ◌||◌, ◌≡◌, ◌∷◌}
 use Rattle.regent_tree.specs.Scopes.{Scope, in_scope}
 use Rattle.regent_tree.specs.StaticTypes.{looked_up, place_of_space}
 use Rattle.regent_tree.specs.Syntax.{Initializer, TaskTree, Tree}
@@ -20,6 +20,7 @@ use Rattle.check_rules.specs.first.Rules.{first_in}
 use Rattle.check_rules.specs.types.Sorts.{is_unknown_type}
 use Rattle.check_rules.specs.scopes.Variables.{expressions_in_initializer, known_of_known_initializer, known_initializer, standing_in_initializer}
 use Rattle.check_rules.specs.declared.rule.Rule.{Rule}
+use Rattle.static_types.specs.declared.stop.Stop.{Stop}
 use Rattle.check_variables.specs.declared.initializers.Beginning.{Beginning}
 
 -- an initializer with the expressions in it, in the order of the checker
@@ -46,3 +47,8 @@ IsOfType s t b = (b.static_type ≡ owned s.next t) × (option_to_list b.known �
 abbrev pub IsBegun : Tree → Scope → Initializer → Beginning → Type 0
 IsBegun tree s i b = (b.static_type ≡ known_initializer tree s i)
     × (option_to_list b.known ≡ known_of_known_initializer tree s (Some i))
+
+-- what a variable is by a partition, which tells no more than its type
+abbrev pub begun_by : Result StaticType Stop → Result Beginning Stop
+begun_by (Ok t) = Ok (record { static_type = t; known = None })
+begun_by (Err stop) = Err stop

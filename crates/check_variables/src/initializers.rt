@@ -15,7 +15,7 @@ ghost use Rattle.check_rules.specs.rules.Standing.{space_spot, stands};
 ghost use Rattle.static_types.specs.Telling.{Tells};
 ghost use Rattle.check_expressions.specs.Seen.{seen};
 ghost use Rattle.check_expressions.specs.Sites.{HoldsDeclared, task_at, tree_at};
-ghost use Rattle.check_variables.specs.Beginning.{IsBegun, IsOfType, IsOver, first_in_initializer};
+ghost use Rattle.check_variables.specs.Beginning.{IsBegun, IsOfType, IsOver, begun_by, first_in_initializer};
 
 use crate::beginnings::difference;
 use crate::partition_initializers::{both, by_field, either, equal, image, minus, preimage};
@@ -208,8 +208,20 @@ fn partition(static_type: StaticType) -> Beginning
     }
 }
 
+/// A variable that begins with a partition operation.
+fn begun_by_partition(t: Result<StaticType, Stop>) -> Result<Beginning, Stop>
+    ensures { result ≡ begun_by t }
+{
+    match t {
+        Ok(static_type) => Ok(Beginning {
+            static_type,
+            known: None,
+        }),
+        Err(stop) => Err(stop),
+    }
+}
+
 /// The first rule that an initializer breaches, or what a variable is by it.
-#[tactic(auto, using(crate::proofs::InitializerForms::nothing_either))]
 pub fn initial_value(site: &Site, scope: &Scope, init: &Init) -> Result<Beginning, Stop>
     requires { HoldsDeclared site.now }
     ensures { Tells (IsBegun (tree_at site.now) (seen scope.now) (initializer_of init.now)) result
@@ -217,26 +229,28 @@ pub fn initial_value(site: &Site, scope: &Scope, init: &Init) -> Result<Beginnin
 {
     match init {
         Init::Region { space, fields } => region(site, scope, space, fields),
-        Init::Equal { region, colours } => Ok(partition(equal(site, scope, region, colours)?)),
+        Init::Equal { region, colours } => {
+            begun_by_partition(equal(site, scope, region, colours))
+        }
         Init::ByField {
             region,
             field,
             colours,
-        } => Ok(partition(by_field(site, scope, region, field, colours)?)),
+        } => begun_by_partition(by_field(site, scope, region, field, colours)),
         Init::Image {
             parent,
-            partition: old,
+            partition,
             region,
             field,
-        } => Ok(partition(image(site, scope, parent, old, region, field)?)),
+        } => begun_by_partition(image(site, scope, parent, partition, region, field)),
         Init::Preimage {
             parent,
-            partition: old,
+            partition,
             region,
             field,
-        } => Ok(partition(preimage(site, scope, parent, old, region, field)?)),
-        Init::Both { p, q } => Ok(partition(both(site, scope, p, q)?)),
-        Init::Either { p, q } => Ok(partition(either(site, scope, p, q)?)),
+        } => begun_by_partition(preimage(site, scope, parent, partition, region, field)),
+        Init::Both { p, q } => begun_by_partition(both(site, scope, p, q)),
+        Init::Either { p, q } => begun_by_partition(either(site, scope, p, q)),
         Init::Plain(e) => plain(site, scope, e),
     }
 }

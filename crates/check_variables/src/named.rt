@@ -30,7 +30,7 @@ use std::alloc::AllocError;
 use written_types::{names_partition, names_region};
 
 /// The type of the field of the region that a name stands for.
-pub fn named_field(
+fn named_field(
     site: &Site,
     names: &Names,
     region: &Name,
@@ -45,17 +45,43 @@ pub fn named_field(
 }
 
 /// Whether a field of a type may tell colours: an integer or an index.
-pub fn tells_colours(t: &StaticType) -> bool
+fn tells_colours(t: &StaticType) -> bool
     ensures { result ≡ tells_colours t.now }
 {
     is_unknown(t) || is_integer(t) || is_index(t)
 }
 
 /// Whether a field of a type may tell points: an index or a pointer.
-pub fn tells_points(t: &StaticType) -> bool
+fn tells_points(t: &StaticType) -> bool
     ensures { result ≡ tells_points t.now }
 {
     is_unknown(t) || is_index(t) || is_pointer(t)
+}
+
+/// Whether the field of the region that a name stands for may tell colours.
+pub fn named_tells_colours(
+    site: &Site,
+    names: &Names,
+    region: &Name,
+    field: &Name,
+) -> Result<bool, AllocError>
+    ensures { IfOk result (λ b. b ≡ tells_colours
+        (known_field (tree_at site.now) (type_named names.now region.now) field.now)) }
+{
+    Ok(tells_colours(&named_field(site, names, region, field)?))
+}
+
+/// Whether the field of the region that a name stands for may tell points.
+pub fn named_tells_points(
+    site: &Site,
+    names: &Names,
+    region: &Name,
+    field: &Name,
+) -> Result<bool, AllocError>
+    ensures { IfOk result (λ b. b ≡ tells_points
+        (known_field (tree_at site.now) (type_named names.now region.now) field.now)) }
+{
+    Ok(tells_points(&named_field(site, names, region, field)?))
 }
 
 /// Reads the field of the region that a name stands for.

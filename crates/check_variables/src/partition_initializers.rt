@@ -1,15 +1,17 @@
 //! Partition operations as initializers.
 
-ghost use Rattle.std.specs.Prelude.{◌≡◌, ◌||◌, not};
+ghost use Rattle.std.specs.Prelude.{◌≡◌, ◌||◌, None, not};
 ghost use Rattle.std.specs.Option.{option_or};
 ghost use Rattle.regent_tree.specs.Lookup.{is_bound, type_named};
 ghost use Rattle.regent_tree.specs.Plain.{expression_of};
-ghost use Rattle.regent_tree.specs.Syntax.{both_initializer, by_field_initializer, either_initializer, equal_initializer, image_initializer, preimage_initializer};
+ghost use Rattle.regent_tree.specs.Syntax.{Expression, both_initializer, by_field_initializer, either_initializer, equal_initializer, image_initializer, preimage_initializer};
 ghost use Rattle.regent_tree.specs.Typing.{is_disjoint, parent_of};
 ghost use Rattle.regent_tree.specs.declared.typing.StaticType.TheVariants.{Partition as partition_type};
 ghost use Rattle.check_rules.specs.types.Params.{type_unless};
 ghost use Rattle.check_rules.specs.rules.Partitions.{have_other_parents};
+ghost use Rattle.check_rules.specs.first.FirstInExpressions.{first_in_expression};
 ghost use Rattle.check_rules.specs.first.Rules.{rule_if};
+ghost use Rattle.check_rules.specs.types.KnownTypes.{known_type};
 ghost use Rattle.check_rules.specs.types.Sorts.{is_unknown_type};
 ghost use Rattle.check_rules.specs.scopes.Variables.{known_initializer};
 ghost use Rattle.check_rules.specs.declared.rule.Rule.TheVariants as rule;
@@ -20,8 +22,8 @@ ghost use Rattle.check_variables.specs.Beginning.{first_in_initializer};
 
 use crate::fields::is_unknown_region_field;
 use crate::named::{
-    is_disjoint_named, named_field, named_have_other_parents, named_parent_is_outside, operands,
-    parent_named, reads_named_field, region_is_outside, tells_colours, tells_points,
+    is_disjoint_named, named_have_other_parents, named_parent_is_outside, named_tells_colours,
+    named_tells_points, operands, parent_named, reads_named_field, region_is_outside,
     unbound_name_in_operation,
 };
 use check_expressions::{Scope, Site, expression, spots};
@@ -29,6 +31,29 @@ use check_rules::Rule;
 use regent_tree::{Expr, Name, StaticType};
 use static_types::{Stop, is_unknown, is_unstructured, number_bound};
 use written_types::{is_unknown_name, names_region};
+
+/// A partition into parts of equal size, by colours of a type.
+fn equal_over(site: &Site, scope: &Scope, region: &Name, t: &StaticType) -> Result<StaticType, Stop>
+    ensures { (e : Expression) → t.now ≡ known_type (tree_at site.now) (seen scope.now) e
+        → first_in_expression (tree_at site.now) (task_at site.now) (seen scope.now) e ≡ None
+        → Tells (λ u. u ≡ known_initializer (tree_at site.now) (seen scope.now)
+        (equal_initializer region.now e)) result
+        (first_in_initializer (tree_at site.now) (task_at site.now) (seen scope.now)
+        (equal_initializer region.now e)) }
+{
+    let names = scope.names();
+    Stop::at(!names_region(names, region), Rule::Name)?;
+    Stop::at(is_unstructured(t), Rule::Partition)?;
+    spots::space(t)?;
+    if is_unknown(t) || is_unknown_name(names, region) {
+        return Ok(StaticType::Unknown);
+    }
+    Ok(StaticType::Partition {
+        disjoint: true,
+        parent: number_bound(names, region),
+        own: scope.next(),
+    })
+}
 
 /// A partition into parts of equal size.
 pub fn equal(site: &Site, scope: &Scope, region: &Name, colours: &Expr) -> Result<StaticType, Stop>
@@ -39,15 +64,39 @@ pub fn equal(site: &Site, scope: &Scope, region: &Name, colours: &Expr) -> Resul
         (equal_initializer region.now (expression_of colours.now))) }
 {
     let t = expression(site, scope, colours)?;
-    Stop::at(!names_region(scope.names(), region), Rule::Name)?;
-    Stop::at(is_unstructured(&t), Rule::Partition)?;
-    spots::space(&t)?;
-    if is_unknown(&t) || is_unknown_name(scope.names(), region) {
+    equal_over(site, scope, region, &t)
+}
+
+/// A partition by the colours that a field tells, over colours of a type.
+fn by_field_over(
+    site: &Site,
+    scope: &Scope,
+    region: &Name,
+    field: &Name,
+    t: &StaticType,
+) -> Result<StaticType, Stop>
+    requires { HoldsDeclared site.now }
+    ensures { (e : Expression) → t.now ≡ known_type (tree_at site.now) (seen scope.now) e
+        → first_in_expression (tree_at site.now) (task_at site.now) (seen scope.now) e ≡ None
+        → Tells (λ u. u ≡ known_initializer (tree_at site.now) (seen scope.now)
+        (by_field_initializer region.now field.now e)) result
+        (first_in_initializer (tree_at site.now) (task_at site.now) (seen scope.now)
+        (by_field_initializer region.now field.now e)) }
+{
+    let names = scope.names();
+    let has_unbound_name = is_unknown_region_field(site.declared, names, region, field);
+    Stop::at(has_unbound_name, Rule::Name)?;
+    let tells = named_tells_colours(site, names, region, field)?;
+    Stop::at(!tells, Rule::Partition)?;
+    Stop::at(is_unstructured(t), Rule::Partition)?;
+    reads_named_field(site, scope, region, field)?;
+    spots::space(t)?;
+    if is_unknown(t) || is_unknown_name(names, region) {
         return Ok(StaticType::Unknown);
     }
     Ok(StaticType::Partition {
         disjoint: true,
-        parent: number_bound(scope.names(), region),
+        parent: number_bound(names, region),
         own: scope.next(),
     })
 }
@@ -67,22 +116,7 @@ pub fn by_field(
         (by_field_initializer region.now field.now (expression_of colours.now))) }
 {
     let t = expression(site, scope, colours)?;
-    let names = scope.names();
-    let has_unbound_name = is_unknown_region_field(site.declared, names, region, field);
-    Stop::at(has_unbound_name, Rule::Name)?;
-    let told = named_field(site, names, region, field)?;
-    Stop::at(!tells_colours(&told), Rule::Partition)?;
-    Stop::at(is_unstructured(&t), Rule::Partition)?;
-    reads_named_field(site, scope, region, field)?;
-    spots::space(&t)?;
-    if is_unknown(&t) || is_unknown_name(names, region) {
-        return Ok(StaticType::Unknown);
-    }
-    Ok(StaticType::Partition {
-        disjoint: true,
-        parent: number_bound(names, region),
-        own: scope.next(),
-    })
+    by_field_over(site, scope, region, field, &t)
 }
 
 /// A partition of a region by where the pointers of another partition's children lead.
@@ -103,9 +137,9 @@ pub fn image(
     let names = scope.names();
     let has_unbound_name = unbound_name_in_operation(site, names, parent, partition, region, field);
     Stop::at(has_unbound_name, Rule::Name)?;
-    let told = named_field(site, names, region, field)?;
+    let tells = named_tells_points(site, names, region, field)?;
     let outside = named_parent_is_outside(scope, partition, region);
-    Stop::at(outside || !tells_points(&told), Rule::Partition)?;
+    Stop::at(outside || !tells, Rule::Partition)?;
     reads_named_field(site, scope, region, field)?;
     if is_unknown_name(names, parent) {
         return Ok(StaticType::Unknown);
@@ -135,9 +169,9 @@ pub fn preimage(
     let names = scope.names();
     let has_unbound_name = unbound_name_in_operation(site, names, parent, partition, region, field);
     Stop::at(has_unbound_name, Rule::Name)?;
-    let told = named_field(site, names, region, field)?;
+    let tells = named_tells_points(site, names, region, field)?;
     let outside = region_is_outside(scope, parent, region);
-    Stop::at(outside || !tells_points(&told), Rule::Partition)?;
+    Stop::at(outside || !tells, Rule::Partition)?;
     reads_named_field(site, scope, region, field)?;
     if is_unknown_name(names, parent) || is_unknown_name(names, partition) {
         return Ok(StaticType::Unknown);
