@@ -1,10 +1,14 @@
 -- Segments and calls that come one after another.
-use Rattle.std.proofs.Common.{arith, ◌≡◌, ◌<◌, ◌-◌, ℕ, zero, suc, Bool, true, false, cond, Some, List, [], ◌∷◌, ◌++◌, refl, slice_get, length, nat_le, sym, ap, ◌∙◌}
+use Rattle.std.proofs.Common.{arith, ◌≡◌, ◌<◌, ◌-◌, ℕ, zero, suc, Bool, true, false, cond, None, Option, Some, List, [], ◌∷◌, refl, slice_get, length, nat_le, sym, ap, ◌∙◌}
+use Rattle.region_tree.specs.Requirements.{Requirement, is_within}
 use Rattle.regent_tree.specs.declared.outcome.Outcome.{Outcome}
 use Rattle.task_code.specs.declared.code.Code.{Code}
 use Rattle.task_code.specs.declared.code.TaskCode.{TaskCode}
 use Rattle.task_code.specs.declared.job.Job.{Job}
+use Rattle.machine_terms.specs.declared.frame.Frame.{Frame}
+use Rattle.machine_terms.specs.declared.order.Contents.{Contents}
 use Rattle.machine_terms.specs.declared.order.Ended.{Ended}
+use Rattle.machine_terms.specs.declared.order.Ended.TheVariants.{Broke, CameBack}
 use Rattle.machine_terms.specs.declared.order.Instance.{Instance}
 use Rattle.machine_terms.specs.declared.order.Resumed.{Resumed}
 use Rattle.machine_terms.specs.declared.order.Resumed.TheVariants.{GoesOn, IsOver}
@@ -12,53 +16,76 @@ use Rattle.machine_terms.specs.declared.outcome.CallOut.{CallOut}
 use Rattle.machine_terms.specs.Contents.{no_contents}
 use Rattle.machine_terms.specs.Jobs.{first_frame, may_start, outcome, run_first, void_outcome}
 use Rattle.machine_terms.specs.Opening.{opening, requirements_on}
-use Rattle.machine_terms.specs.Orders.{Runner, before_of, begun, breaks, call_all, call_task, call_within, enough_segments, on_resumed, resume_after, run_segments, runs, until_over}
+use Rattle.machine_terms.specs.Orders.{Runner, after_call, before_of, begun, breaks, call_all, call_task, call_within, enough_segments, on_resumed, resume_after, run_segments, runs, until_over}
 use Rattle.machine_terms.specs.Segments.{segment}
+use Rattle.plain_run.specs.Nexts.{needed, resumed_as}
 
-on_resumed_twice : (r : Resumed) (f g h : Instance → Resumed) →
-    ((i : Instance) → f i ≡ on_resumed (g i) h) → on_resumed r f ≡ on_resumed (on_resumed r g) h
-on_resumed_twice (GoesOn i) f g h e = e i
-on_resumed_twice (IsOver over) f g h e = refl
+-- what an instance keeps of the roots doesn't matter to what follows behind a call
+pub called_empty : (e : Ended) (i : Instance) (c : Contents) → after_call e (record i { contents = c }) ≡ after_call e i
+called_empty (CameBack v own contents text) i c = refl
+called_empty (Broke fault text) i c = refl
+
+within_none : (child : Runner) (f : Frame) (o : Option (List Requirement)) (i : Instance) →
+    None ≡ needed o i.needs → breaks i ≡ call_within child f o i
+within_none child f None i e = refl
+within_none child f (Some needs) i e = go (is_within needs i.needs) e
+  where
+    go : (b : Bool) → None ≡ cond b (Some needs) None → breaks i ≡ cond b (after_call (child (begun f needs i.contents)) i) (breaks i)
+    go true q = absurd cc
+    go false q = refl
+
+within_some : (child : Runner) (f : Frame) (o : Option (List Requirement)) (ns : List Requirement) (i : Instance) →
+    Some ns ≡ needed o i.needs → after_call (child (begun f ns i.contents)) i ≡ call_within child f o i
+within_some child f None ns i e = absurd cc
+within_some child f (Some needs) ns i e = go (is_within needs i.needs) e
+  where
+    go : (b : Bool) → Some ns ≡ cond b (Some needs) None →
+        after_call (child (begun f ns i.contents)) i ≡ cond b (after_call (child (begun f needs i.contents)) i) (breaks i)
+    go true q = let same : ns ≡ needs = cc in ap (λ (rs : List Requirement). after_call (child (begun f rs i.contents)) i) same
+    go false q = absurd cc
 
 module _ (code : Code) (turns : ℕ) (child : Runner) where
-  nothing_more : (r : Resumed) → on_resumed r (call_all code turns child []) ≡ r
-  nothing_more (GoesOn i) = refl
-  nothing_more (IsOver over) = refl
-
   abbrev one : CallOut → Instance → Resumed
   one c i = call_task code turns child c (slice_get code.tasks c.task) i
 
-  calls_on : (cs : List CallOut) (c : CallOut) (i : Instance) →
-      call_all code turns child (cs ++ c ∷ []) i ≡ on_resumed (call_all code turns child cs i) (one c)
-  calls_on [] c i = nothing_more (one c i)
-  calls_on (d ∷ ds) c i = on_resumed_twice (one d i) (call_all code turns child (ds ++ c ∷ []))
-      (call_all code turns child ds) (one c) (calls_on ds c)
-
   -- one more call
-  pub call_next : (cs : List CallOut) (c : CallOut) (i : Instance) (state r : Resumed) →
-      call_all code turns child cs i ≡ state →
-      r ≡ on_resumed state (call_task code turns child c (slice_get code.tasks c.task)) →
-      call_all code turns child (cs ++ c ∷ []) i ≡ r
-  call_next cs c i state r e is = calls_on cs c i ∙
-      ap (λ (s : Resumed). on_resumed s (one c)) e ∙ sym is
+  pub call_next : (left cs : List CallOut) (c : CallOut) (i j : Instance) (over : Option Ended) (total : Resumed) → left ≡ c ∷ cs →
+      resumed_as over j ≡ one c i → call_all code turns child left i ≡ total →
+      on_resumed (resumed_as over j) (call_all code turns child cs) ≡ total
+  call_next left cs c i j over total is made so_far =
+      ap (λ (r : Resumed). on_resumed r (call_all code turns child cs)) made
+      ∙ ap (λ (ds : List CallOut). call_all code turns child ds i) (sym is) ∙ so_far
 
-  -- a call with more arguments than slots
-  pub too_many : (c : CallOut) (t : TaskCode) (i : Instance) (r : Resumed) →
-      nat_le (length c.args) t.slots ≡ false → r ≡ breaks i →
-      r ≡ call_task code turns child c (Some t) i
-  too_many c t i r more e = e ∙ sym (ap (λ (b : Bool). cond b
-      (call_within child (opening turns (suc i.frame.depth) c.task t c.args)
-      (requirements_on code i.contents t.needs c.args) i) (breaks i)) more)
+  -- a call of no task
+  pub no_task : (c : CallOut) (i : Instance) → None ≡ slice_get code.tasks c.task → breaks i ≡ one c i
+  no_task c i e = ap (λ (o : Option TaskCode). call_task code turns child c o i) e
 
-  -- a call with a slot for each argument
-  pub call_begun : (c : CallOut) (t : TaskCode) (i : Instance) (r : Resumed) →
-      nat_le (length c.args) t.slots ≡ true →
-      r ≡ call_within child (opening turns (suc i.frame.depth) c.task t c.args)
-      (requirements_on code i.contents t.needs c.args) i →
-      r ≡ call_task code turns child c (Some t) i
-  call_begun c t i r few e = e ∙ sym (ap (λ (b : Bool). cond b
-      (call_within child (opening turns (suc i.frame.depth) c.task t c.args)
-      (requirements_on code i.contents t.needs c.args) i) (breaks i)) few)
+  module _ (c : CallOut) (i : Instance) (t : TaskCode) (is : Some t ≡ slice_get code.tasks c.task) where
+    abbrev frame : Frame
+    frame = opening turns (suc i.frame.depth) c.task t c.args
+
+    abbrev needs : Option (List Requirement)
+    needs = requirements_on code i.contents t.needs c.args
+
+    by_slots : (b : Bool) → nat_le (length c.args) t.slots ≡ b → cond b (call_within child frame needs i) (breaks i) ≡ one c i
+    by_slots b e = ap (λ (q : Bool). cond q (call_within child frame needs i) (breaks i)) (sym e)
+        ∙ ap (λ (o : Option TaskCode). call_task code turns child c o i) is
+
+    -- a call with more arguments than slots
+    pub too_many : nat_le (length c.args) t.slots ≡ false → breaks i ≡ one c i
+    too_many more = by_slots false more
+
+    -- one that needs more than its caller
+    pub needs_more : nat_le (length c.args) t.slots ≡ true → None ≡ needed needs i.needs → breaks i ≡ one c i
+    needs_more few e = within_none child frame needs i e ∙ by_slots true few
+
+    -- and one that begins
+    pub call_begins : (f : Frame) (ns : List Requirement) (empty : Contents) → nat_le (length c.args) t.slots ≡ true → f ≡ frame →
+        Some ns ≡ needed needs i.needs →
+        after_call (child (begun f ns i.contents)) (record i { contents = empty }) ≡ one c i
+    call_begins f ns empty few opens e = called_empty (child (begun f ns i.contents)) i empty
+        ∙ ap (λ (g : Frame). after_call (child (begun g ns i.contents)) i) opens
+        ∙ within_some child frame needs ns i e ∙ by_slots true few
 
   -- one more segment
   pub segment_next : (left : ℕ) (now next : Instance) (total : Ended) → 0 < left →

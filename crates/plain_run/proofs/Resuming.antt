@@ -8,7 +8,7 @@ use Rattle.task_code.specs.declared.code.Code.{Code}
 use Rattle.machine_terms.specs.declared.frame.Frame.{Frame}
 use Rattle.machine_terms.specs.declared.order.Contents.{Contents}
 use Rattle.machine_terms.specs.declared.order.Ended.{Ended}
-use Rattle.machine_terms.specs.declared.order.Ended.TheVariants.{CameBack}
+use Rattle.machine_terms.specs.declared.order.Ended.TheVariants.{Broke, CameBack}
 use Rattle.machine_terms.specs.declared.order.Instance.{Instance}
 use Rattle.machine_terms.specs.declared.order.Resumed.{Resumed}
 use Rattle.machine_terms.specs.declared.order.Resumed.TheVariants as resumed
@@ -25,10 +25,9 @@ use Rattle.machine_terms.specs.Makes.{fields_needed, is_sound, make_partition, r
 use Rattle.machine_terms.specs.Orders.{Runner, before_of, breaks, call_all, conclude, fetch_part, give_all, make, resume_after, run_segments, with_parts}
 use Rattle.machine_terms.specs.Segments.{segment}
 use Rattle.plain_store.specs.declared.holder.Holder.{Holder}
-use Rattle.plain_run.specs.declared.next.Next.{Next}
-use Rattle.plain_run.specs.Nexts.{Follows, with_loans}
+use Rattle.plain_run.specs.Nexts.{FrameLeft, HasRun, resumed_as}
 use Rattle.plain_store.specs.declared.loan.Loan.{Loan}
-use Rattle.plain_store.specs.Loans.{AreLent, GoesOnAs, Stands, whole}
+use Rattle.plain_store.specs.Loans.{AreLent, Follows, GoesOnAs, Stands, whole}
 use Rattle.segment_regions.proofs.Pendings.{segments_ask_no_other}
 use Rattle.plain_run.specs.Answers.{KeptAnswers, LetGo, Serves, await_answer, resume_after_by, resume_by, resume_in_by, with_numbers, with_results}
 use Rattle.plain_run.specs.declared.answers.Answer.{Answer}
@@ -50,30 +49,24 @@ conclude_with_roots (yield.Make m) i f e = refl
 conclude_with_roots (yield.Fault k) i f e = refl
 conclude_with_roots yield.MachineFault i f e = refl
 
-resume_in_with_roots : (kept : List Answer) (code : Code) (turns : ℕ) (child : Runner) (o : Option Frame) (y : Yield)
-    (i : Instance) (f : Frame) → f.own ≡ i.frame.own →
-    resume_in_by kept code turns child o y (record i { frame = f }) ≡ resume_in_by kept code turns child o y i
-resume_in_with_roots kept code turns child (Some g) y i f e = refl
-resume_in_with_roots kept code turns child None y i f e = ap resumed.IsOver (conclude_with_roots y i f e)
-
-pub resumes_with_roots : (kept : List Answer) (code : Code) (turns : ℕ) (child : Runner) (a : After) (i : Instance) (f : Frame) →
-    f.own ≡ i.frame.own → resume_after_by kept code turns child a (record i { frame = f; parts = [] })
-    ≡ resume_after_by kept code turns child a i
-resumes_with_roots kept code turns child a i f e =
-    resume_in_with_roots kept code turns child a.frame a.ends (with_parts a i) f e
-
 -- ---- what follows
 
-pub nothing_lent : (r : Resumed) → Follows (with_loans [] r) r
-nothing_lent (resumed.GoesOn i) = record { contents = i.contents; instance = refl; stands = refl }
-nothing_lent (resumed.IsOver e) = refl
+-- what follows with these loans
+abbrev Goes : List Loan → Resumed → Resumed → Type 0
+Goes ls (resumed.GoesOn i) r = GoesOnAs (record { instance = i; loans = ls }) r
+Goes ls (resumed.IsOver e) r = r ≡ resumed.IsOver e
 
-pub awaited_follows : (kept : List Answer) (ls : List Loan) (n : ℕ) (i : Instance) (c : Contents) → AreLent ls c i.contents →
-    Follows (with_loans ls (resumed.GoesOn (await_answer kept n i))) (resumed.GoesOn (await_answer kept n (record i { contents = c })))
-awaited_follows kept ls n i c h = record { contents = c; instance = refl; stands = h }
+as_follows : (over : Option Ended) (i : Instance) (ls : List Loan) (r : Resumed) → Goes ls (resumed_as over i) r →
+    Follows over (record { instance = i; loans = ls }) r
+as_follows None i ls r f = f
+as_follows (Some e) i ls r f = f
 
-pub made_follows : (ls : List Loan) (code : Code) (m : Made) (i : Instance) (c : Contents) →
-    AreLent ls c i.contents → Follows (with_loans ls (make code m i)) (make code m (record i { contents = c }))
+nothing_lent : (over : Option Ended) (i : Instance) → Follows over (record { instance = i; loans = [] }) (resumed_as over i)
+nothing_lent None i = record { contents = i.contents; instance = refl; stands = refl }
+nothing_lent (Some e) i = refl
+
+made_follows : (ls : List Loan) (code : Code) (m : Made) (i : Instance) (c : Contents) →
+    AreLent ls c i.contents → Goes ls (make code m i) (make code m (record i { contents = c }))
 made_follows ls code (made.Root size space) i c h =
     let image = new_root space size (kinds_of code space) in
     let fields = fields_needed code size space in record {
@@ -91,7 +84,7 @@ made_follows ls code (made.Root size space) i c h =
     }
 made_follows ls code (made.Partition r sets disjoint) i c h = go (is_sound r.points sets disjoint)
   where
-    go : (b : Bool) → Follows (with_loans ls (cond b (resumed.GoesOn (make_partition r sets disjoint i)) (breaks i)))
+    go : (b : Bool) → Goes ls (cond b (resumed.GoesOn (make_partition r sets disjoint i)) (breaks i))
         (cond b (resumed.GoesOn (make_partition r sets disjoint (record i { contents = c })))
         (breaks (record i { contents = c })))
     go true = record { contents = c; instance = refl; stands = h }
@@ -104,80 +97,101 @@ pub record RunsOn (code : Code) (turns : ℕ) (child : Runner) (left : ℕ) (now
   pub contents : Contents
   pub results : List ℤ
   pub stands : Stands contents now
-  pub none : now.instance.results ≡ []
   pub serves : Serves answers now.instance.frame results
-  pub ends : run_segments code turns child left (with_results results (whole contents now)) ≡ total
+  pub ends : run_segments code turns child left (after results (whole contents now)) ≡ total
 
 module _ (code : Code) (turns : ℕ) (child : Runner) where
   abbrev stopped : Holder → After
   stopped h = segment (before_of code h.instance)
 
-  -- what follows by the answers, and what follows with all values
+  -- what follows by the answers
   abbrev by_answers : List Answer → Contents → Holder → Resumed
   by_answers kept c h = resume_after_by kept code turns child (stopped h) (whole c h)
 
-  with_all : (rs : List ℤ) (i : Instance) → i.results ≡ [] → with_results rs i ≡ after rs i
-  with_all rs i none = ap (λ (zs : List ℤ). with_results zs i) (sym (ap (λ (zs : List ℤ). rs ++ zs) none ∙ append-nil rs))
+  -- with the values of children that came back last put to those that are kept
+  abbrev emptied : Holder → Holder
+  emptied h = record h { instance = with_results [] h.instance }
 
-  all_follows : (answers : KeptAnswers) (rs : List ℤ) (c : Contents) (h : Holder) → h.instance.results ≡ [] →
+  all_follow : (answers : KeptAnswers) (rs : List ℤ) (c : Contents) (h : Holder) → h.instance.results ≡ [] →
       Serves answers h.instance.frame rs →
-      resume_after code turns child (stopped h) (with_results rs (whole c h)) ≡ behind rs (by_answers answers.kept c h)
-  all_follows answers rs c h none serves =
-      ap (resume_after code turns child (stopped h)) (with_all rs (whole c h) none)
-      ∙ follows_behind code turns child answers.kept rs (stopped h) (whole c h) (λ f e n had.
+      resume_after code turns child (stopped h) (after rs (whole c h)) ≡ behind rs (by_answers answers.kept c h)
+  all_follow answers rs c h none serves =
+      follows_behind code turns child answers.kept rs (stopped h) (whole c h) (λ f e n had.
       serves.told n (segments_ask_no_other (before_of code h.instance) f n e (inl (inl had)))
       ∙ ap (λ (zs : List ℤ). get_or zs n (pos 0)) (sym (ap (λ (zs : List ℤ). rs ++ zs) none ∙ append-nil rs)))
 
-  -- Behind a segment the values of children that came back last are put to those that are kept.
-  pub holder_next : (left : ℕ) (now next kept : Holder) (answers more : KeptAnswers) (total : Ended) → 0 < left →
-      (r : RunsOn code turns child left now answers total) → GoesOnAs next (by_answers answers.kept r.contents now) →
-      kept ≡ record next { instance = with_results [] next.instance } →
-      LetGo (with_numbers next.instance.results answers) more next.instance.frame →
-      RunsOn code turns child (left - 1) kept more total
-  holder_next left now next kept answers more total l r f is let_go =
+  keeps : (left : ℕ) (now : Holder) (answers more : KeptAnswers) (total : Ended) → RunsOn code turns child left now answers total →
+      LetGo (with_numbers now.instance.results answers) more now.instance.frame →
+      RunsOn code turns child left (emptied now) more total
+  keeps left now answers more total r let_go =
       let rs = r.results in
-      let zs = next.instance.results in
-      let to : resume_after code turns child (stopped now) (with_results rs (whole r.contents now)) ≡ behind rs (resumed.GoesOn (whole f.contents next)) =
-      all_follows answers rs r.contents now r.none r.serves ∙ ap (behind rs) f.instance in
+      let zs = now.instance.results in record {
+        contents = r.contents;
+        results = rs ++ zs;
+        stands = r.stands;
+        serves = serves_still (with_numbers zs answers) more now.instance.frame (rs ++ zs) let_go
+            (serves_more answers now.instance.frame rs zs r.serves);
+        ends = ap (λ (ys : List ℤ). run_segments code turns child left (with_results ys (whole r.contents now)))
+            (append-nil (rs ++ zs)) ∙ r.ends;
+      }
+
+  steps : (left : ℕ) (now next : Holder) (answers : KeptAnswers) (total : Ended) → 0 < left → now.instance.results ≡ [] →
+      (r : RunsOn code turns child left now answers total) → GoesOnAs next (by_answers answers.kept r.contents now) →
+      RunsOn code turns child (left - 1) next answers total
+  steps left now next answers total l none r f =
+      let rs = r.results in
+      let to : resume_after code turns child (stopped now) (after rs (whole r.contents now)) ≡ behind rs (resumed.GoesOn (whole f.contents next)) =
+      all_follow answers rs r.contents now none r.serves ∙ ap (behind rs) f.instance in
       let asks : AsksNoMore now.instance.frame (resumed.GoesOn (whole f.contents next)) =
       subst (AsksNoMore now.instance.frame) f.instance
       (asks_behind code turns child answers.kept (stopped now) (whole r.contents now) now.instance.frame
-      (λ g e n may. segments_ask_no_other (before_of code now.instance) g n e may)) in
-      subst (λ (h : Holder). RunsOn code turns child (left - 1) h more total) (sym is) (record {
+      (λ g e n may. segments_ask_no_other (before_of code now.instance) g n e may)) in record {
         contents = f.contents;
-        results = rs ++ zs;
+        results = rs;
         stands = f.stands;
-        none = refl;
-        serves = serves_still (with_numbers zs answers) more next.instance.frame (rs ++ zs) let_go
-            (serves_more answers next.instance.frame rs zs (serves_fewer answers now.instance.frame next.instance.frame rs asks r.serves));
-        ends = segment_next code turns child left (with_results rs (whole r.contents now))
-            (with_results (rs ++ zs) (whole f.contents next)) total l (sym to) r.ends;
-      })
+        serves = serves_fewer answers now.instance.frame next.instance.frame rs asks r.serves;
+        ends = segment_next code turns child left (after rs (whole r.contents now)) (after rs (whole f.contents next)) total l (sym to) r.ends;
+      }
 
-  pub holder_last : (left : ℕ) (now : Holder) (answers : KeptAnswers) (over total : Ended) → 0 < left →
-      (r : RunsOn code turns child left now answers total) → by_answers answers.kept r.contents now ≡ resumed.IsOver over → over ≡ total
-  holder_last left now answers over total l r f =
-      segment_last code turns child left (with_results r.results (whole r.contents now)) over total l
-      (sym (all_follows answers r.results r.contents now r.none r.serves ∙ ap (behind r.results) f)) r.ends
+  module _ (left : ℕ) (now kept next : Holder) (answers more : KeptAnswers) (total : Ended) (l : 0 < left)
+      (r : RunsOn code turns child left now answers total) (is : kept ≡ emptied now)
+      (let_go : LetGo (with_numbers now.instance.results answers) more now.instance.frame) where
+    ready : RunsOn code turns child left kept more total
+    ready = subst (λ (h : Holder). RunsOn code turns child left h more total) (sym is) (keeps left now answers more total r let_go)
+
+    none : kept.instance.results ≡ []
+    none = ap (λ (h : Holder). h.instance.results) is
+
+    -- behind a segment that isn't the last
+    pub holder_next : ((c : Contents) → Stands c kept → Follows None next (by_answers more.kept c kept)) →
+        RunsOn code turns child (left - 1) next more total
+    holder_next f = steps left kept next more total l none ready (f ready.contents ready.stands)
+
+    -- and behind the last
+    pub holder_last : (over : Ended) → ((c : Contents) → Stands c kept → Follows (Some over) next (by_answers more.kept c kept)) →
+        over ≡ total
+    holder_last over f =
+        segment_last code turns child left (after ready.results (whole ready.contents kept)) over total l
+        (sym (all_follow more ready.results ready.contents kept none ready.serves
+        ∙ ap (behind ready.results) (f ready.contents ready.stands))) ready.ends
 
   -- before the first segment
-  pub holder_first : (left : ℕ) (i : Instance) (begun now : Holder) (answers : KeptAnswers) (total : Ended) →
-      begun.instance ≡ i → begun.loans ≡ [] → run_segments code turns child left i ≡ total →
-      now ≡ record begun { instance = with_results [] begun.instance } →
-      LetGo (with_numbers begun.instance.results (record { kept = []; count = 0 })) answers begun.instance.frame →
-      RunsOn code turns child left now answers total
-  holder_first left i begun now answers total same none ends is let_go =
-      let rs = begun.instance.results in
-      subst (λ (h : Holder). RunsOn code turns child left h answers total) (sym is) (record {
-        contents = begun.instance.contents;
-        results = rs;
-        stands = subst (λ (ls : List Loan). AreLent ls begun.instance.contents begun.instance.contents) (sym none) refl;
-        none = refl;
-        serves = serves_still (with_numbers rs (record { kept = []; count = 0 })) answers begun.instance.frame rs let_go
-            (serves_more (record { kept = []; count = 0 }) begun.instance.frame [] rs
-            (record { count = refl; below = All-nil (λ (x : Answer). x.child < 0); told = λ n may. refl }));
-        ends = ap (run_segments code turns child left) same ∙ ends;
-      })
+  pub holder_first : (left : ℕ) (h : Holder) (answers : KeptAnswers) → h.loans ≡ [] → answers ≡ record { kept = []; count = 0 } →
+      RunsOn code turns child left h answers (run_segments code turns child left h.instance)
+  holder_first left h answers no_loans no_answers = record {
+    contents = h.instance.contents;
+    results = [];
+    stands = subst (λ (ls : List Loan). AreLent ls h.instance.contents h.instance.contents) (sym no_loans) refl;
+    serves = subst (λ (a : KeptAnswers). Serves a h.instance.frame []) (sym no_answers)
+        (record { count = refl; below = All-nil (λ (x : Answer). x.child < 0); told = λ n may. refl });
+    ends = refl;
+  }
+
+  -- where no segment is left
+  pub holder_out : (left : ℕ) (now : Holder) (answers : KeptAnswers) (total : Ended) → left ≡ 0 →
+      RunsOn code turns child left now answers total → Broke None now.instance.text ≡ total
+  holder_out left now answers total none r =
+      ap (λ (n : ℕ). run_segments code turns child n (after r.results (whole r.contents now))) (sym none) ∙ r.ends
 
 -- ---- what an instance waits for
 
@@ -185,47 +199,72 @@ module _ (kept : List Answer) (code : Code) (turns : ℕ) (child : Runner) (k : 
   abbrev for_it : Yield → Resumed
   for_it z = resume_by kept code turns child z (whole k h)
 
-  pub calls_follow : (calls : List CallOut) (ready : Instance) (resumed : Resumed) (next : Next) →
-      y ≡ yield.Calls calls → ready ≡ give_all (whole k h) → resumed ≡ call_all code turns child calls ready →
-      next ≡ with_loans [] resumed → Follows next (for_it y)
-  calls_follow calls ready resumed next is all made to =
-      subst (λ (n : Next). Follows n (for_it y)) (sym to)
-      (subst (λ (r : Resumed). Follows (with_loans [] resumed) r)
-      (made ∙ ap (call_all code turns child calls) all ∙ ap for_it (sym is)) (nothing_lent resumed))
+  pub calls_follow : (calls : List CallOut) (given : Holder) (i : Instance) (over : Option Ended) →
+      y ≡ yield.Calls calls → given.loans ≡ [] → given.instance ≡ give_all (whole k h) →
+      resumed_as over i ≡ call_all code turns child calls given.instance → Follows over (record given { instance = i }) (for_it y)
+  calls_follow calls given i over is no_loans all made =
+      subst (λ (ls : List Loan). Follows over (record { instance = i; loans = ls }) (for_it y)) (sym no_loans)
+      (subst (λ (r : Resumed). Follows over (record { instance = i; loans = [] }) r)
+      (made ∙ ap (call_all code turns child calls) all ∙ ap for_it (sym is)) (nothing_lent over i))
 
   pub want_follows : (root : RootId) (field : ℕ) (after : Holder) → y ≡ yield.Want root field →
       Stands k after × (whole k after ≡ fetch_part code root.0 field (whole k h)) →
-      GoesOnAs after (for_it y)
+      Follows None after (for_it y)
   want_follows root field after is f = record {
     contents = k;
     instance = ap for_it is ∙ ap resumed.GoesOn (sym f.1);
     stands = f.0;
   }
 
-  pub await_follows : (n : ℕ) (after : Instance) (next : Next) → Stands k h → y ≡ yield.Await n →
-      after ≡ await_answer kept n h.instance → next ≡ with_loans h.loans (resumed.GoesOn after) → Follows next (for_it y)
-  await_follows n after next st is made to =
-      subst (λ (x : Next). Follows x (for_it y))
-      (sym (to ∙ ap (λ (i : Instance). with_loans h.loans (resumed.GoesOn i)) made))
-      (subst (λ (r : Resumed). Follows (with_loans h.loans (resumed.GoesOn (await_answer kept n h.instance))) r)
-      (ap for_it (sym is)) (awaited_follows kept h.loans n h.instance k st))
+  pub await_follows : (n : ℕ) (i : Instance) → Stands k h → y ≡ yield.Await n → i ≡ await_answer kept n h.instance →
+      Follows None (record h { instance = i }) (for_it y)
+  await_follows n i st is made = subst (λ (j : Instance). Follows None (record h { instance = j }) (for_it y)) (sym made)
+      (record { contents = k; instance = ap for_it is; stands = st })
 
-  pub make_follows : (m : Made) (resumed : Resumed) (next : Next) → Stands k h → y ≡ yield.Make m →
-      resumed ≡ make code m h.instance → next ≡ with_loans h.loans resumed → Follows next (for_it y)
-  make_follows m resumed next st is made to =
-      subst (λ (x : Next). Follows x (for_it y)) (sym (to ∙ ap (with_loans h.loans) made))
-      (subst (λ (r : Resumed). Follows (with_loans h.loans (make code m h.instance)) r)
-      (ap for_it (sym is)) (made_follows h.loans code m h.instance k st))
+  pub make_follows : (m : Made) (over : Option Ended) (i : Instance) → Stands k h → y ≡ yield.Make m →
+      resumed_as over i ≡ make code m h.instance → Follows over (record h { instance = i }) (for_it y)
+  make_follows m over i st is made = as_follows over i h.loans (for_it y)
+      (subst (λ (r : Resumed). Goes h.loans r (for_it y)) (sym made)
+      (subst (λ (r : Resumed). Goes h.loans (make code m h.instance) r) (ap for_it (sym is))
+      (made_follows h.loans code m h.instance k st)))
 
--- behind a segment, by the rest of a holder that kept the roots of its frame
-pub segment_follows : (kept : List Answer) (code : Code) (turns : ℕ) (child : Runner) (k : Contents) (h rest : Holder) (a : After)
-    (n : Next) → a ≡ segment (before_of code h.instance) → rest.instance.frame.own ≡ h.instance.frame.own →
-    rest ≡ record h { instance = record h.instance { frame = rest.instance.frame; parts = [] } } →
-    Stands k h → ((c : Contents) → Stands c rest → Follows n (resume_after_by kept code turns child a (whole c rest))) →
-    Follows n (resume_after_by kept code turns child (segment (before_of code h.instance)) (whole k h))
-segment_follows kept code turns child k h rest a n is own same st f =
-    subst (λ (r : Resumed). Follows n r)
-    (ap (λ (x : Holder). resume_after_by kept code turns child a (whole k x)) same ∙
-    resumes_with_roots kept code turns child a (whole k h) rest.instance.frame own ∙
-    ap (λ (b : After). resume_after_by kept code turns child b (whole k h)) is)
-    (f k (subst (λ (x : Holder). Stands k x) (sym same) st))
+-- ---- behind a segment
+
+module _ (kept : List Answer) (code : Code) (turns : ℕ) (child : Runner) (k : Contents) (h rest : Holder) (a : After)
+    (goes_on : Bool) (ends : Yield) (ran : HasRun a goes_on ends h.instance rest.instance) (loans : rest.loans ≡ h.loans) where
+  same_contents : rest.instance.contents ≡ h.instance.contents
+  same_contents = ap (λ (i : Instance). i.contents) ran.rest
+
+  stands_still : Stands k h → Stands k rest
+  stands_still st = subst (λ (ls : List Loan). AreLent ls k rest.instance.contents) (sym loans)
+      (subst (λ (c : Contents). AreLent h.loans k c) (sym same_contents) st)
+
+  -- the instance with what the segment left
+  abbrev left : Instance
+  left = record (with_parts a (whole k h)) { frame = rest.instance.frame }
+
+  same : whole k rest ≡ left
+  same = ap (λ (i : Instance). record i { contents = k }) ran.rest
+
+  by_frame : (o : Option Frame) → FrameLeft o goes_on h.instance.frame rest.instance.frame → goes_on ≡ true →
+      resume_by kept code turns child a.ends left ≡ resume_in_by kept code turns child o a.ends (with_parts a (whole k h))
+  by_frame (Some f) was is = ap (λ (g : Frame). resume_by kept code turns child a.ends (record (with_parts a (whole k h)) { frame = g })) was.1
+  by_frame None was is = absurd (let q : true ≡ false = sym is ∙ was.0 in cc)
+
+  by_roots : (o : Option Frame) → FrameLeft o goes_on h.instance.frame rest.instance.frame → goes_on ≡ false →
+      resumed.IsOver (conclude a.ends left) ≡ resume_in_by kept code turns child o a.ends (with_parts a (whole k h))
+  by_roots (Some f) was is = absurd (let q : true ≡ false = sym was.0 ∙ is in cc)
+  by_roots None was is = ap resumed.IsOver (conclude_with_roots a.ends (with_parts a (whole k h)) rest.instance.frame was.1)
+
+  pub goes_on_behind : (over : Option Ended) (next : Holder) → goes_on ≡ true → Stands k h →
+      ((c : Contents) → Stands c rest → Follows over next (resume_by kept code turns child ends (whole c rest))) →
+      Follows over next (resume_after_by kept code turns child a (whole k h))
+  goes_on_behind over next is st f = subst (λ (r : Resumed). Follows over next r)
+      (ap (λ (y : Yield). resume_by kept code turns child y (whole k rest)) ran.stops
+      ∙ ap (resume_by kept code turns child a.ends) same ∙ by_frame a.frame ran.frame is) (f k (stands_still st))
+
+  pub ends_behind : (over : Ended) (next : Holder) → goes_on ≡ false → Stands k h →
+      ((c : Contents) → Stands c rest → over ≡ conclude ends (whole c rest)) →
+      Follows (Some over) next (resume_after_by kept code turns child a (whole k h))
+  ends_behind over next is st f = sym (ap resumed.IsOver (f k (stands_still st)
+      ∙ ap (λ (y : Yield). conclude y (whole k rest)) ran.stops ∙ ap (conclude a.ends) same) ∙ by_roots a.frame ran.frame is)

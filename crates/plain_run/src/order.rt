@@ -1,34 +1,25 @@
 //! The run in order.
 
-ghost use Rattle.std.specs.Prelude.{◌≡◌, [], suc, Some, slice_get, IfOk, OnOk};
-ghost use Rattle.machine_terms.specs.Contents.{no_contents};
-ghost use Rattle.machine_terms.specs.Jobs.{first_frame, order_run, run_first};
-ghost use Rattle.machine_terms.specs.Opening.{opening, requirements_on};
-ghost use Rattle.machine_terms.specs.Orders.{before_of, begun, call_all, call_task, call_within, on_resumed};
-ghost use Rattle.machine_terms.specs.Orders.{enough_segments, run_segments, runs};
+ghost use Rattle.std.specs.Prelude.{◌≡◌, [], slice_get, Some, IfOk};
+ghost use Rattle.machine_terms.specs.Jobs.{order_run, run_first};
+ghost use Rattle.machine_terms.specs.Orders.{after_call, before_of, call_all, call_task, enough_segments, run_segments, runs};
 ghost use Rattle.machine_terms.specs.Segments.{segment};
 ghost use Rattle.machine_terms.specs.declared.order.Contents.{Contents as contents};
-ghost use Rattle.plain_run.specs.Answers.{LetGo, resume_after_by, resume_by, with_numbers, with_results};
-ghost use Rattle.plain_run.specs.Nexts.{Follows};
-ghost use Rattle.plain_store.specs.Loans.{Stands, whole};
+ghost use Rattle.plain_run.specs.Answers.{resume_after_by, resume_by};
+ghost use Rattle.plain_run.specs.Nexts.{resumed_as};
+ghost use Rattle.plain_store.specs.Loans.{Follows, Stands, whole};
 
 use crate::answers::Answers;
-use crate::frames::opening;
-use crate::instances::{
-    after_call, await_child, begun, breaks, broke, conclude, fetched, frame_of_roots, give_all,
-    make,
-};
-use crate::next::{Next, with_loans};
+use crate::calls::{after_call, child_of};
+use crate::instances::{await_child, begun, broke, conclude, give_all, keep_answers, make};
 use crate::outcomes::{first_frame, may_start, outcome, void_outcome};
-use machine_terms::{After, CallOut, Ended, Frame, Instance, Resumed, Yield};
-use plain_store::{Holder, no_contents, requirements_on};
+use crate::segments::run_one;
+use machine_terms::{CallOut, Ended, Frame, Instance, Yield};
+use plain_store::{Holder, fetch_part, no_contents};
 use plain_values::Sequence;
 use regent_tree::Outcome;
-use region_tree::{Part, Required, RootId, are_within};
 use std::alloc::{AllocError, Global};
-use std::mem;
 use task_code::{Code, Job, TaskCode};
-use task_machine::run;
 
 /// Runs a job in order: a task instance runs from segment to segment, and each call runs whole where it
 /// is made.
@@ -49,37 +40,32 @@ fn run_first(alloc: Global, job: &Job, task: &TaskCode) -> Result<Outcome, Alloc
     if !may_start(job, task) {
         return Ok(void_outcome(alloc));
     }
-    let first = first_instance(alloc, job, task)?;
-    let ended = runs(alloc, job.code.get(), job.turns, 64, first)?;
+    let frame = first_frame(alloc, job, task)?;
+    let mut first = begun(alloc, frame, Sequence::new(alloc), no_contents(alloc));
+    let ended = runs(alloc, job.code.get(), job.turns, 64, &mut first)?;
     outcome(alloc, ended)
 }
 
-fn first_instance(alloc: Global, job: &Job, task: &TaskCode) -> Result<Instance, AllocError>
-    ensures { IfOk result (λ i. i ≡ begun (first_frame job.now task.now) [] no_contents) }
-{
-    let frame = first_frame(alloc, job, task)?;
-    Ok(begun(alloc, frame, Sequence::new(alloc), no_contents(alloc)))
-}
-
-/// Runs an instance below which so many calls may nest.
+/// Runs an instance that holds no part, below which so many calls may nest.
 #[cycle(run)]
 fn runs(
     alloc: Global,
     code: &Code,
     turns: u64,
     levels: u8,
-    instance: Instance,
+    holder: &mut Holder,
 ) -> Result<Ended, AllocError>
-    ensures { IfOk result (λ e. e ≡ runs code.now turns levels instance) }
+    requires { holder.old.loans ≡ [] }
+    ensures { IfOk result (λ e. e ≡ runs code.now turns levels holder.old.instance) }
 {
     if levels == 0 {
-        return Ok(broke(None, instance));
+        return Ok(broke(alloc, None, &mut holder.instance));
     }
-    let count = enough_segments(code, &instance.frame)?;
-    run_segments(alloc, code, turns, levels - 1, count, instance)
+    let count = enough_segments(code, &holder.instance.frame)?;
+    run_segments(alloc, code, turns, levels - 1, count, holder)
 }
 
-/// More segments than an instance has. What can't be counted counts as a want of memory.
+/// More segments than an instance has. What can't be counted counts as out of memory.
 fn enough_segments(code: &Code, frame: &Frame) -> Result<u128, AllocError>
     ensures { IfOk result (λ n. n ≡ enough_segments code.now frame.now) }
 {
@@ -102,39 +88,22 @@ fn run_segments(
     turns: u64,
     below: u8,
     count: u128,
-    instance: Instance,
+    holder: &mut Holder,
 ) -> Result<Ended, AllocError>
-    ensures { IfOk result (λ e. e ≡ run_segments code.now turns (runs code.now turns below) count instance) }
+    requires { holder.old.loans ≡ [] }
+    ensures { IfOk result (λ e. e
+        ≡ run_segments code.now turns (runs code.now turns below) count holder.old.instance) }
 {
-    let begun = Holder {
-        instance,
-        loans: Sequence::new(alloc),
-    };
     let mut answers = Answers::new(alloc);
-    let mut now = keep_answers(alloc, begun, &mut answers)?;
     let mut left = count;
     while left > 0 {
-        match next_segment(alloc, code, turns, below, &answers, now)? {
-            Next::GoesOn(next) => now = keep_answers(alloc, next, &mut answers)?,
-            Next::IsOver(ended) => return Ok(ended),
+        keep_answers(alloc, &mut holder.instance, &mut answers)?;
+        if let Some(ended) = next_segment(alloc, code, turns, below, &answers, holder)? {
+            return Ok(ended);
         }
         left -= 1;
     }
-    Ok(broke(None, now.instance))
-}
-
-/// Puts the values of children that came back last to those that are kept.
-fn keep_answers(alloc: Global, holder: Holder, answers: &mut Answers) -> Result<Holder, AllocError>
-    ensures holder { IfOk result (λ h. h
-        ≡ record holder { instance = with_results [] holder.instance }) }
-    ensures answers { OnOk result (LetGo
-        (with_numbers holder.instance.results answers.old) answers.new holder.instance.frame) }
-{
-    let mut after = holder;
-    let results = mem::replace(&mut after.instance.results, Sequence::new(alloc));
-    answers.take(results.as_slice())?;
-    answers.let_go(&after.instance.frame)?;
-    Ok(after)
+    Ok(broke(alloc, None, &mut holder.instance))
 }
 
 /// Runs an instance for one segment, and for what the segment stops for.
@@ -145,66 +114,17 @@ fn next_segment(
     turns: u64,
     below: u8,
     answers: &Answers,
-    holder: Holder,
-) -> Result<Next, AllocError>
-    ensures { IfOk result (λ n. (c : contents) → Stands c holder → Follows n
+    holder: &mut Holder,
+) -> Result<Option<Ended>, AllocError>
+    ensures { IfOk result (λ over. (c : contents) → Stands c holder.old → Follows over holder.new
         (resume_after_by answers.now.kept code.now turns (runs code.now turns below)
-        (segment (before_of code.now holder.instance)) (whole c holder))) }
+        (segment (before_of code.now holder.old.instance)) (whole c holder.old))) }
 {
-    let own = holder.instance.frame.own.copy()?;
-    let (frame, parts, rest) = opened(alloc, own, holder);
-    let after = run(alloc, code, frame, parts)?;
-    go_on(alloc, code, turns, below, answers, after, rest)
-}
-
-/// The frame and the parts of an instance, and the rest of it with the roots that it made.
-fn opened(alloc: Global, own: Sequence<RootId>, holder: Holder) -> (Frame, Sequence<Part>, Holder)
-    requires { own ≡ holder.instance.frame.own }
-    ensures frame { result.0 ≡ holder.instance.frame }
-    ensures parts { result.1 ≡ holder.instance.parts }
-    ensures own { result.2.instance.frame.own ≡ holder.instance.frame.own }
-    ensures rest { result.2 ≡ record holder {
-      instance = record holder.instance {
-        frame = result.2.instance.frame;
-        parts = [];
-      };
-    } }
-{
-    let mut rest = holder;
-    let frame = mem::replace(&mut rest.instance.frame, frame_of_roots(alloc, own));
-    let parts = mem::replace(&mut rest.instance.parts, Sequence::new(alloc));
-    (frame, parts, rest)
-}
-
-/// Goes on behind a segment of an instance, whose frame and parts were given to it.
-#[cycle(run)]
-fn go_on(
-    alloc: Global,
-    code: &Code,
-    turns: u64,
-    below: u8,
-    answers: &Answers,
-    after: After,
-    rest: Holder,
-) -> Result<Next, AllocError>
-    ensures { IfOk result (λ n. (c : contents) → Stands c rest → Follows n (resume_after_by
-        answers.now.kept code.now turns (runs code.now turns below) after (whole c rest))) }
-{
-    let After {
-        frame,
-        parts,
-        text,
-        ends,
-    } = after;
-    let mut left = rest;
-    left.instance.text.extend(text.as_slice())?;
-    left.instance.parts = parts;
-    match frame {
-        Some(frame) => {
-            left.instance.frame = frame;
-            resume(alloc, code, turns, below, answers, ends, left)
-        }
-        None => Ok(Next::IsOver(conclude(alloc, ends, left)?)),
+    let (goes_on, ends) = run_one(alloc, code, &mut holder.instance)?;
+    if goes_on {
+        resume(alloc, code, turns, below, answers, ends, holder)
+    } else {
+        Ok(Some(conclude(alloc, ends, holder)?))
     }
 }
 
@@ -217,36 +137,33 @@ fn resume(
     below: u8,
     answers: &Answers,
     ends: Yield,
-    holder: Holder,
-) -> Result<Next, AllocError>
-    ensures { IfOk result (λ n. (c : contents) → Stands c holder → Follows n (resume_by
-        answers.now.kept code.now turns (runs code.now turns below) ends (whole c holder))) }
+    holder: &mut Holder,
+) -> Result<Option<Ended>, AllocError>
+    ensures { IfOk result (λ over. (c : contents) → Stands c holder.old → Follows over holder.new
+        (resume_by answers.now.kept code.now turns (runs code.now turns below) ends
+        (whole c holder.old))) }
 {
     match ends {
         Yield::Calls(calls) => {
-            let ready = give_all(alloc, holder)?;
-            let resumed = call_all(alloc, code, turns, below, calls, ready)?;
-            Ok(with_loans(Sequence::new(alloc), resumed))
+            give_all(alloc, holder)?;
+            call_all(alloc, code, turns, below, calls, &mut holder.instance)
         }
         Yield::Want { root, field } => {
-            let fetched = fetched(alloc, code, root, field, holder)?;
-            Ok(Next::GoesOn(fetched))
+            fetch_part(alloc, code, root, field, holder)?;
+            Ok(None)
         }
         Yield::Await(child) => {
-            let settled = await_child(alloc, child, answers, holder.instance)?;
-            Ok(with_loans(holder.loans, Resumed::GoesOn(settled)))
+            await_child(alloc, child, answers, &mut holder.instance)?;
+            Ok(None)
         }
-        Yield::Make(made) => {
-            let next = make(alloc, code, made, holder.instance)?;
-            Ok(with_loans(holder.loans, next))
-        }
+        Yield::Make(made) => make(alloc, code, made, &mut holder.instance),
         Yield::End(_) | Yield::Fault(_) | Yield::MachineFault => {
-            Ok(Next::IsOver(broke(None, holder.instance)))
+            Ok(Some(broke(alloc, None, &mut holder.instance)))
         }
     }
 }
 
-/// Makes calls, of which each runs whole before the next one.
+/// Makes calls, of which each runs whole before the next one, until one ends the run.
 #[cycle(run)]
 fn call_all(
     alloc: Global,
@@ -254,35 +171,17 @@ fn call_all(
     turns: u64,
     below: u8,
     calls: Sequence<CallOut>,
-    instance: Instance,
-) -> Result<Resumed, AllocError>
-    ensures { IfOk result (λ r. r
-        ≡ call_all code.now turns (runs code.now turns below) calls instance) }
+    instance: &mut Instance,
+) -> Result<Option<Ended>, AllocError>
+    ensures { IfOk result (λ over. resumed_as over instance.new
+        ≡ call_all code.now turns (runs code.now turns below) calls instance.old) }
 {
-    let mut state = Resumed::GoesOn(instance);
     for call in calls.into_vec() {
-        state = call_on(alloc, code, turns, below, call, state)?;
+        if let Some(ended) = call_task(alloc, code, turns, below, call, instance)? {
+            return Ok(Some(ended));
+        }
     }
-    Ok(state)
-}
-
-/// Makes a call where the instance goes on.
-#[cycle(run)]
-fn call_on(
-    alloc: Global,
-    code: &Code,
-    turns: u64,
-    below: u8,
-    call: CallOut,
-    state: Resumed,
-) -> Result<Resumed, AllocError>
-    ensures { IfOk result (λ r. r ≡ on_resumed state (call_task code.now turns
-        (runs code.now turns below) call (slice_get code.now.tasks call.task))) }
-{
-    match state {
-        Resumed::GoesOn(instance) => call_task(alloc, code, turns, below, call, instance),
-        Resumed::IsOver(ended) => Ok(Resumed::IsOver(ended)),
-    }
+    Ok(None)
 }
 
 /// Makes a call.
@@ -293,95 +192,32 @@ fn call_task(
     turns: u64,
     below: u8,
     call: CallOut,
-    instance: Instance,
-) -> Result<Resumed, AllocError>
-    ensures { IfOk result (λ r. r ≡ call_task code.now turns (runs code.now turns below) call
-        (slice_get code.now.tasks call.task) instance) }
+    instance: &mut Instance,
+) -> Result<Option<Ended>, AllocError>
+    ensures { IfOk result (λ over. resumed_as over instance.new ≡ call_task code.now turns
+        (runs code.now turns below) call (slice_get code.now.tasks call.task) instance.old) }
 {
-    match code.tasks.as_slice().get(call.task as usize) {
-        Some(task) => call_known(alloc, code, turns, below, call, task, instance),
-        None => Ok(breaks(instance)),
+    match child_of(alloc, code, turns, call, instance)? {
+        Some(child) => run_child(alloc, code, turns, below, child, instance),
+        None => Ok(Some(broke(alloc, None, instance))),
     }
 }
 
-/// Makes a call of a task, if it has a slot for each argument.
+/// Runs a child of an instance, and goes on in the instance.
 #[cycle(run)]
-fn call_known(
+fn run_child(
     alloc: Global,
     code: &Code,
     turns: u64,
     below: u8,
-    call: CallOut,
-    task: &TaskCode,
-    instance: Instance,
-) -> Result<Resumed, AllocError>
-    ensures { IfOk result (λ r. r ≡ call_task code.now turns (runs code.now turns below) call
-        (Some task.now) instance) }
+    child: Holder,
+    instance: &mut Instance,
+) -> Result<Option<Ended>, AllocError>
+    requires { child.loans ≡ [] }
+    ensures { IfOk result (λ over. resumed_as over instance.new
+        ≡ after_call (runs code.now turns below child.instance) instance.old) }
 {
-    if call.args.len() > task.slots as usize {
-        return Ok(breaks(instance));
-    }
-    let needs = needs_of(alloc, code, task, &call, &instance)?;
-    let frame = frame_of(alloc, turns, task, call, &instance)?;
-    call_within(alloc, code, turns, below, frame, needs, instance)
-}
-
-/// What a call needs of the roots of its caller.
-fn needs_of(
-    alloc: Global,
-    code: &Code,
-    task: &TaskCode,
-    call: &CallOut,
-    caller: &Instance,
-) -> Result<Option<Sequence<Required>>, AllocError>
-    ensures { IfOk result (λ rs. rs
-        ≡ requirements_on code.now caller.now.contents task.now.needs call.now.args) }
-{
-    let values = call.args.as_slice();
-    requirements_on(alloc, code, &caller.contents, task.needs.as_slice(), values)
-}
-
-/// The frame in which a call begins. A depth above the 255th counts as a want of memory.
-fn frame_of(
-    alloc: Global,
-    turns: u64,
-    task: &TaskCode,
-    call: CallOut,
-    caller: &Instance,
-) -> Result<Frame, AllocError>
-    ensures { IfOk result (λ f. f
-        ≡ opening turns (suc caller.now.frame.depth) call.task task.now call.args) }
-{
-    let CallOut { task: number, args } = call;
-    match caller.frame.depth.checked_add(1) {
-        Some(depth) => opening(alloc, turns, depth, number, task, args),
-        None => Err(AllocError),
-    }
-}
-
-/// Makes a call that begins in a frame, if what it needs is within what its caller does.
-#[cycle(run)]
-fn call_within(
-    alloc: Global,
-    code: &Code,
-    turns: u64,
-    below: u8,
-    frame: Frame,
-    needs: Option<Sequence<Required>>,
-    instance: Instance,
-) -> Result<Resumed, AllocError>
-    ensures { IfOk result (λ r. r
-        ≡ call_within (runs code.now turns below) frame needs instance) }
-{
-    let Some(needs) = needs else {
-        return Ok(breaks(instance));
-    };
-    if !are_within(needs.as_slice(), instance.needs.as_slice()) {
-        return Ok(breaks(instance));
-    }
-    let mut caller = instance;
-    let contents = mem::replace(&mut caller.contents, no_contents(alloc));
-    let child = begun(alloc, frame, needs, contents);
-    let ended = runs(alloc, code, turns, below, child)?;
-    after_call(alloc, ended, caller)
+    let mut holder = child;
+    let ended = runs(alloc, code, turns, below, &mut holder)?;
+    after_call(alloc, ended, instance)
 }
