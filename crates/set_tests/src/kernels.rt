@@ -7,59 +7,71 @@ use lane_kernels::{
 };
 use std::alloc::{AllocError, Global};
 
+/// Whether a fold of two numbers into two others gives these, and one behind a mask leaves the first as it was.
+fn fold_comes_out(
+    (op, width): (Op, Width),
+    before: [i64; 2],
+    from: [i64; 2],
+    after: [i64; 2],
+) -> bool {
+    let mut into = before;
+    fold(op, width, &mut into, &from);
+    let mut masked = before;
+    fold_masked(op, width, &mut masked, &from, &[false, true]);
+    into == after && masked == [before[0], after[1]]
+}
+
 #[test]
 fn folds_by_hand(rt: HostRuntime) {
-    let rows = [
-        (
-            Op::Sum,
-            Width::W32,
+    let found = [
+        fold_comes_out(
+            (Op::Sum, Width::W32),
             [0x7fff_ffff, -1],
             [1, 1],
             [-0x8000_0000, 0],
         ),
-        (
-            Op::Sum,
-            Width::W64,
+        fold_comes_out(
+            (Op::Sum, Width::W64),
             [0x7fff_ffff, i64::MAX],
             [1, 1],
             [0x8000_0000, i64::MIN],
         ),
-        (
-            Op::Product,
-            Width::W32,
+        fold_comes_out(
+            (Op::Product, Width::W32),
             [65_536, -3],
             [65_537, 7],
             [65_536, -21],
         ),
-        (Op::Least, Width::W64, [3, 9], [5, 5], [3, 5]),
-        (Op::Greatest, Width::W32, [3, -9], [5, -10], [5, -9]),
+        fold_comes_out((Op::Least, Width::W64), [3, 9], [5, 5], [3, 5]),
+        fold_comes_out((Op::Greatest, Width::W32), [3, -9], [5, -10], [5, -9]),
     ];
-    for (op, width, before, from, want) in rows {
-        let mut into = before;
-        fold(op, width, &mut into, &from);
-        let mut masked = before;
-        fold_masked(op, width, &mut masked, &from, &[false, true]);
-        assert_eq!(rt;
-            (into, masked),
-            (want, [before[0], want[1]]),
-            "{op:?} of {before:?} and {from:?}"
-        );
-    }
+    assert_eq!(rt; found, [true; 5]);
 }
 
-#[test]
-fn copies_and_words_by_hand(rt: HostRuntime) {
+/// Whether copies behind a mask are made where it is set.
+fn copies_are_masked() -> bool {
     let mut copied = [1, 2, 3];
     copy_masked(&mut copied, &[7, 8, 9], &[true, false, true]);
+    copied == [7, 2, 9]
+}
+
+/// Whether the meet, the union and the difference of a word of 6 with one of 3 are these.
+fn words_are_combined() -> bool {
     let (mut both, mut either, mut rest) = ([6], [6], [6]);
     and_words(&mut both, &[3]);
     or_words(&mut either, &[3]);
     minus_words(&mut rest, &[3]);
+    (both, either, rest) == ([2], [7], [4])
+}
+
+#[test]
+fn copies_and_words_by_hand(rt: HostRuntime) {
     let alike = [equal(&[], &[]), equal(&[1], &[])];
     let common = [any_common(&[6], &[1]), any_common(&[6], &[3])];
+    let made = [copies_are_masked(), words_are_combined()];
     assert_eq!(rt;
-        (copied, [both, either, rest], [alike, common]),
-        ([7, 2, 9], [[2], [7], [4]], [[true, false], [false, true]])
+        [alike, common, made],
+        [[true, false], [false, true], [true, true]]
     );
 }
 

@@ -14,4 +14,6 @@ mod parts;
 #[cfg(test)]
 mod planes;
 #[cfg(test)]
+mod rows;
+#[cfg(test)]
 mod sets;

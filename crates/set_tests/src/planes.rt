@@ -3,30 +3,9 @@
 ghost use Rattle.std.specs.Prelude.{◌*◌, ◌<◌, ◌≤◌};
 ghost use Rattle.plain_values.specs.Points.{IsPoints};
 
+use crate::rows::{LIMIT, plane_has_points, plane_of, plane_range};
 use bit_planes::{Plane, PlaneBuilder, WORD_LIMIT};
 use std::alloc::{AllocError, Global};
-
-/// How many points there are.
-const LIMIT: u32 = 4_194_304;
-
-/// The points from one to below another.
-fn range(alloc: Global, start: u32, end: u32) -> Result<Plane, AllocError> {
-    if start >= end || end > LIMIT {
-        return PlaneBuilder::new(alloc, 0, 0)?.finish();
-    }
-    let mut builder = PlaneBuilder::new(alloc, start, end - 1)?;
-    builder.set_range(start, end);
-    builder.finish()
-}
-
-/// The union of ranges.
-fn made(alloc: Global, ranges: &[(u32, u32)]) -> Result<Plane, AllocError> {
-    let mut plane = range(alloc, 0, 0)?;
-    for (start, end) in ranges {
-        plane = plane.union(&range(alloc, *start, *end)?)?;
-    }
-    Ok(plane)
-}
 
 /// Every so many-th point from 0 on.
 fn every(alloc: Global, step: u32) -> Result<Plane, AllocError>
@@ -42,45 +21,26 @@ fn every(alloc: Global, step: u32) -> Result<Plane, AllocError>
     builder.finish()
 }
 
-/// Whether a plane has these points and no others, each at its place.
-fn has_points(plane: &Plane, want: &[u32]) -> bool {
-    let mut place = 0_u32;
-    for point in want {
-        let found = (plane.at(place), plane.place_of(*point), plane.has(*point));
-        if found != (Some(*point), Some(place), true) {
-            return false;
-        }
-        place = place.wrapping_add(1);
-    }
-    plane.len() as usize == want.len()
+/// Whether the union, the meet and the difference of two planes have the points of these texts.
+fn come_out(a: &Plane, b: &Plane, texts: [&str; 3]) -> Result<bool, AllocError> {
+    let [either, both, rest] = texts;
+    let union = has_form(a.union(b), either, None)?;
+    let meet = has_form(a.meet(b), both, None)?;
+    let minus = has_form(a.minus(b), rest, None)?;
+    Ok(union && meet && minus)
 }
 
-/// Whether the union, the meet and the difference of two planes have these points.
-fn come_out(
-    a: &Plane,
-    b: &Plane,
-    either: &[u32],
-    both: &[u32],
-    rest: &[u32],
-) -> Result<bool, AllocError> {
-    let union = a.union(b)?;
-    let meet = a.meet(b)?;
-    let minus = a.minus(b)?;
-    Ok(has_points(&union, either) && has_points(&meet, both) && has_points(&minus, rest))
-}
-
-/// Whether two planes that were made are related as these points tell, and their union, meet and difference have them.
+/// Whether two planes that were made are related as their meet and difference are, and these have the points of the texts.
 fn pair_comes_out(
     a: Result<Plane, AllocError>,
     b: Result<Plane, AllocError>,
-    either: &[u32],
-    both: &[u32],
-    rest: &[u32],
+    texts: [&str; 3],
 ) -> Result<bool, AllocError> {
     let a = a?;
     let b = b?;
+    let [_, both, rest] = texts;
     let related = [a.meets(&b), a.within(&b)] == [!both.is_empty(), rest.is_empty()];
-    Ok(come_out(&a, &b, either, both, rest)? && related)
+    Ok(come_out(&a, &b, texts)? && related)
 }
 
 /// How many points either of two planes has, both have, and the first alone has.
@@ -94,38 +54,28 @@ fn sizes(a: &Plane, b: &Plane) -> Result<[u32; 3], AllocError> {
 #[test]
 fn small_planes(rt: HostRuntime) -> Result<(), AllocError> {
     let alloc = rt.alloc();
-    let rows: [(&[(u32, u32)], &[(u32, u32)], &[u32], &[u32], &[u32]); 9] = [
-        (&[], &[], &[], &[], &[]),
-        (&[], &[(2, 5)], &[2, 3, 4], &[], &[]),
-        (&[(2, 5)], &[], &[2, 3, 4], &[], &[2, 3, 4]),
-        (&[(1, 2), (4, 5)], &[(2, 5)], &[1, 2, 3, 4], &[4], &[1]),
+    let rows = [
+        ("", "", ["", "", ""]),
+        ("", "2-4", ["2 3 4", "", ""]),
+        ("2-4", "", ["2 3 4", "", "2 3 4"]),
+        ("1 4", "2-4", ["1 2 3 4", "4", "1"]),
         (
-            &[(62, 66)],
-            &[(64, 70)],
-            &[62, 63, 64, 65, 66, 67, 68, 69],
-            &[64, 65],
-            &[62, 63],
+            "62-65",
+            "64-69",
+            ["62 63 64 65 66 67 68 69", "64 65", "62 63"],
         ),
+        ("0 64 128", "64", ["0 64 128", "64", "0 128"]),
+        ("127-128", "127", ["127 128", "127", "128"]),
+        ("5", "200", ["5 200", "", "5"]),
         (
-            &[(0, 1), (64, 65), (128, 129)],
-            &[(64, 65)],
-            &[0, 64, 128],
-            &[64],
-            &[0, 128],
-        ),
-        (&[(127, 129)], &[(127, 128)], &[127, 128], &[127], &[128]),
-        (&[(5, 6)], &[(200, 201)], &[5, 200], &[], &[5]),
-        (
-            &[(4_194_302, 4_194_304)],
-            &[(4_194_303, 4_194_304)],
-            &[4_194_302, 4_194_303],
-            &[4_194_303],
-            &[4_194_302],
+            "4194302-4194303",
+            "4194303",
+            ["4194302 4194303", "4194303", "4194302"],
         ),
     ];
-    for (left, right, either, both, rest) in rows {
-        let (a, b) = (made(alloc, left), made(alloc, right));
-        assert!(rt; pair_comes_out(a, b, either, both, rest)?, "{either:?}");
+    for (left, right, texts) in rows {
+        let comes_out = pair_comes_out(plane_of(alloc, left), plane_of(alloc, right), texts)?;
+        assert!(rt; comes_out, "{left} and {right}");
     }
     Ok(())
 }
@@ -157,19 +107,22 @@ fn stretches_are_found(plane: Result<Plane, AllocError>) -> Result<bool, AllocEr
 /// A copy of a plane without the points below 65.
 fn without_first(alloc: Global, plane: Result<Plane, AllocError>) -> Result<Plane, AllocError> {
     let plane = plane?;
-    let rest = plane.minus(&range(alloc, 0, 65)?)?;
+    let rest = plane.minus(&plane_range(alloc, 0, 65)?)?;
     rest.copy()
 }
 
-/// Whether a plane that was made has these points and no others, in so many words and stretches.
+/// Whether a plane that was made has these points and no others, in so many words and stretches where they are given.
 fn has_form(
     plane: Result<Plane, AllocError>,
-    points: &[u32],
-    words: usize,
-    stretches: u32,
+    points: &str,
+    form: Option<(usize, u32)>,
 ) -> Result<bool, AllocError> {
     let plane = plane?;
-    Ok(has_points(&plane, points) && (plane.words(), plane.stretches()) == (words, stretches))
+    let is_formed = match form {
+        Some(form) => (plane.words(), plane.stretches()) == form,
+        None => true,
+    };
+    Ok(is_formed && plane_has_points(&plane, points))
 }
 
 #[test]
@@ -178,9 +131,9 @@ fn lists_and_words(rt: HostRuntime) -> Result<(), AllocError> {
     let points = [3, 63, 64, 200];
     let rest = without_first(alloc, of_list(alloc, &points));
     let found = [
-        has_form(of_list(alloc, &points), &points, 4, 3)?,
-        has_form(rest, &[200], 1, 1)?,
-        has_form(of_list(alloc, &[]), &[], 0, 0)?,
+        has_form(of_list(alloc, &points), "3 63 64 200", Some((4, 3)))?,
+        has_form(rest, "200", Some((1, 1)))?,
+        has_form(of_list(alloc, &[]), "", Some((0, 0)))?,
         stretches_are_found(of_list(alloc, &points))?,
     ];
     assert_eq!(rt; found, [true; 4]);
@@ -244,6 +197,6 @@ fn all_come_out(
 #[test]
 fn all_points(rt: HostRuntime) -> Result<(), AllocError> {
     let alloc = rt.alloc();
-    assert!(rt; all_come_out(range(alloc, 0, LIMIT), every(alloc, 2))?);
+    assert!(rt; all_come_out(plane_range(alloc, 0, LIMIT), every(alloc, 2))?);
     Ok(())
 }

@@ -3,58 +3,30 @@
 ghost use Rattle.std.specs.Prelude.{IfOk};
 ghost use Rattle.plain_values.specs.Points.{IsPoints};
 
+use crate::rows::{are_points, set_of};
 use point_sets::{POINT_LIMIT, PointSet};
 use std::alloc::{AllocError, Global};
 
-/// The union of ranges.
-fn made(alloc: Global, ranges: &[(u32, u32)]) -> Result<PointSet, AllocError> {
-    let mut set = PointSet::empty(alloc)?;
-    for (a, b) in ranges {
-        let range = PointSet::range(alloc, *a, (*b).min(POINT_LIMIT))?;
-        set = set.union(&range)?;
-    }
-    Ok(set)
-}
-
-/// Whether a set that was made has these points and no others.
-fn has_points(made: Result<PointSet, AllocError>, want: &[u32]) -> Result<bool, AllocError> {
-    let set = made?;
-    let mut place = 0_u32;
-    for point in want {
-        if set.at(place) != Some(*point) {
-            return Ok(false);
-        }
-        place = place.wrapping_add(1);
-    }
-    Ok(set.len() as usize == want.len())
-}
-
-/// Whether the union, the meet and the difference of two sets have these points.
-fn come_out(
-    a: &PointSet,
-    b: &PointSet,
-    either: &[u32],
-    both: &[u32],
-    rest: &[u32],
-) -> Result<bool, AllocError> {
-    let union = has_points(a.union(b), either)?;
-    let meet = has_points(a.meet(b), both)?;
-    let minus = has_points(a.minus(b), rest)?;
+/// Whether the union, the meet and the difference of two sets have the points of these texts.
+fn come_out(a: &PointSet, b: &PointSet, texts: [&str; 3]) -> Result<bool, AllocError> {
+    let [either, both, rest] = texts;
+    let union = are_points(a.union(b), either)?;
+    let meet = are_points(a.meet(b), both)?;
+    let minus = are_points(a.minus(b), rest)?;
     Ok(union && meet && minus)
 }
 
-/// Whether two sets that were made are related as these points tell, and their union, meet and difference have them.
+/// Whether two sets that were made are related as their meet and difference are, and these have the points of the texts.
 fn pair_comes_out(
     a: Result<PointSet, AllocError>,
     b: Result<PointSet, AllocError>,
-    either: &[u32],
-    both: &[u32],
-    rest: &[u32],
+    texts: [&str; 3],
 ) -> Result<bool, AllocError> {
     let a = a?;
     let b = b?;
+    let [_, both, rest] = texts;
     let related = [a.meets(&b), a.within(&b)] == [!both.is_empty(), rest.is_empty()];
-    Ok(come_out(&a, &b, either, both, rest)? && related)
+    Ok(come_out(&a, &b, texts)? && related)
 }
 
 /// How many points a set that was made has.
@@ -76,39 +48,33 @@ fn evens(alloc: Global) -> Result<Vec<u32>, AllocError>
 #[test]
 fn small_sets(rt: HostRuntime) -> Result<(), AllocError> {
     let alloc = rt.alloc();
-    let rows: [(&[(u32, u32)], &[(u32, u32)], &[u32], &[u32], &[u32]); 10] = [
-        (&[], &[], &[], &[], &[]),
-        (&[], &[(2, 5)], &[2, 3, 4], &[], &[]),
-        (&[(2, 5)], &[], &[2, 3, 4], &[], &[2, 3, 4]),
-        (&[(1, 2), (4, 5)], &[(2, 5)], &[1, 2, 3, 4], &[4], &[1]),
-        (&[(7, 8)], &[(7, 8)], &[7], &[7], &[]),
-        (&[(7, 8)], &[(8, 9)], &[7, 8], &[], &[7]),
-        (&[(3, 4)], &[(1, 6)], &[1, 2, 3, 4, 5], &[3], &[]),
+    let rows = [
+        ("", "", ["", "", ""]),
+        ("", "2-4", ["2 3 4", "", ""]),
+        ("2-4", "", ["2 3 4", "", "2 3 4"]),
+        ("1 4", "2-4", ["1 2 3 4", "4", "1"]),
+        ("7", "7", ["7", "7", ""]),
+        ("7", "8", ["7 8", "", "7"]),
+        ("3", "1-5", ["1 2 3 4 5", "3", ""]),
         (
-            &[(0, 2), (4, 6), (8, 10)],
-            &[(2, 4), (6, 8)],
-            &[0, 1, 2, 3, 4, 5, 6, 7, 8, 9],
-            &[],
-            &[0, 1, 4, 5, 8, 9],
+            "0-1 4-5 8-9",
+            "2-3 6-7",
+            ["0 1 2 3 4 5 6 7 8 9", "", "0 1 4 5 8 9"],
         ),
         (
-            &[(0, 3), (5, 8), (10, 12)],
-            &[(2, 6), (7, 11)],
-            &[0, 1, 2, 3, 4, 5, 6, 7, 8, 9, 10, 11],
-            &[2, 5, 7, 10],
-            &[0, 1, 6, 11],
+            "0-2 5-7 10-11",
+            "2-5 7-10",
+            ["0 1 2 3 4 5 6 7 8 9 10 11", "2 5 7 10", "0 1 6 11"],
         ),
         (
-            &[(4_194_302, 4_194_304)],
-            &[(4_194_303, 4_194_304)],
-            &[4_194_302, 4_194_303],
-            &[4_194_303],
-            &[4_194_302],
+            "4194302-4194303",
+            "4194303",
+            ["4194302 4194303", "4194303", "4194302"],
         ),
     ];
-    for (left, right, either, both, rest) in rows {
-        let (a, b) = (made(alloc, left), made(alloc, right));
-        assert!(rt; pair_comes_out(a, b, either, both, rest)?, "{either:?}");
+    for (left, right, texts) in rows {
+        let comes_out = pair_comes_out(set_of(alloc, left), set_of(alloc, right), texts)?;
+        assert!(rt; comes_out, "{left} and {right}");
     }
     Ok(())
 }
@@ -134,8 +100,8 @@ fn edges_come_out(
 #[test]
 fn edges(rt: HostRuntime) -> Result<(), AllocError> {
     let alloc = rt.alloc();
-    let all = made(alloc, &[(0, POINT_LIMIT)]);
-    assert!(rt; edges_come_out(all, made(alloc, &[(5, 2)]))?);
+    let all = set_of(alloc, "0-4194303");
+    assert!(rt; edges_come_out(all, set_of(alloc, "5-1"))?);
     Ok(())
 }
 
@@ -222,7 +188,7 @@ fn halves_come_out(
 #[test]
 fn two_million_runs(rt: HostRuntime) -> Result<(), AllocError> {
     let alloc = rt.alloc();
-    let all = made(alloc, &[(0, POINT_LIMIT)]);
+    let all = set_of(alloc, "0-4194303");
     assert!(rt; halves_come_out(all, even_points(alloc))?);
     Ok(())
 }
@@ -235,18 +201,18 @@ fn words_of(made: Result<PointSet, AllocError>) -> Result<usize, AllocError> {
 #[test]
 fn sets_take_the_fewest_words(rt: HostRuntime) -> Result<(), AllocError> {
     let alloc = rt.alloc();
-    let rows: [(&[(u32, u32)], usize); 8] = [
-        (&[], 0),
-        (&[(0, POINT_LIMIT)], 1),
-        (&[(4, 5), (6, 7)], 1),
-        (&[(63, 64), (65, 66)], 2),
-        (&[(62, 63), (64, 65), (66, 67)], 2),
-        (&[(0, 1), (2, 3), (4_194_303, 4_194_304)], 3),
-        (&[(126, 127), (128, 129), (0, 100)], 3),
-        (&[(0, 1), (2, 3), (1, 2)], 1),
+    let rows = [
+        ("", 0),
+        ("0-4194303", 1),
+        ("4 6", 1),
+        ("63 65", 2),
+        ("62 64 66", 2),
+        ("0 2 4194303", 3),
+        ("126 128 0-99", 3),
+        ("0 2 1", 1),
     ];
-    for (ranges, words) in rows {
-        assert_eq!(rt; words_of(made(alloc, ranges))?, words, "{ranges:?}");
+    for (points, words) in rows {
+        assert_eq!(rt; words_of(set_of(alloc, points))?, words, "{points}");
     }
     Ok(())
 }
