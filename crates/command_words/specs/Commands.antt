@@ -1,4 +1,4 @@
--- What the words of the command line say: a command, or nothing where they are refused.
+-- The meaning of the words of the command line: a command, or None if they are refused.
 use Rattle.std.specs.Prelude.{ℕ, ◌&&◌, ◌^◌, Bool, false, List, [], ◌∷◌, Option, Some, None, length, nat_le, option_and_then, option_map, unwrap_or, if◌then◌else◌}
 use Rattle.std.specs.Char.{is_digit}
 use Rattle.std.specs.List.{list_all}
@@ -8,26 +8,26 @@ use Rattle.command_words.specs.Uses.{Use, has_flag, is_single, positional_words,
 
 -- ---- numbers
 
--- 1 to 20 decimal digits, of which the first may be zeros
+-- 1 to 20 decimal digits, with leading zeros allowed
 abbrev pub is_number : Text → Bool
 is_number word = nat_le 1 (length word) && (nat_le (length word) 20 && list_all (λ b. is_digit b 10) word)
 
 abbrev pub value : Text → ℕ
 value word = digits_value 10 word
 
--- the number of a word, where it is one from `least` to `most`
+-- the number of a word, if it is one from `least` to `most`
 abbrev pub number : ℕ → ℕ → Text → Option ℕ
 number least most word =
     if is_number word && (nat_le least (value word) && nat_le (value word) most)
     then Some (value word) else None
 
--- The number that an option names. None outside where its value is refused, and inside where the
--- option isn't used.
+-- The number given by an option. The outer None means that its value is refused, the inner one that
+-- the option isn't used.
 abbrev pub number_named : ℕ → Option Text → Option (Option ℕ)
 number_named most None = Some None
 number_named most (Some word) = option_map (λ n. Some n) (number 0 most word)
 
--- ---- limits, and what holds where an option isn't used
+-- ---- limits, and defaults for options that aren't used
 
 abbrev pub most_workers : ℕ
 most_workers = 64
@@ -44,7 +44,7 @@ default_workers = 4
 abbrev pub default_turns : ℕ
 default_turns = 1000000
 
--- the number of workers and of turns, where these are named
+-- the number of workers and of turns, given or default
 abbrev pub workers_or_default : Option ℕ → ℕ
 workers_or_default named = unwrap_or named default_workers
 
@@ -53,7 +53,8 @@ turns_or_default named = unwrap_or named default_turns
 
 -- ---- commands
 
--- how a program is run: the words for its numbers, how many workers and turns are named, and what is told besides
+-- the options of a run: the words for its numbers, the given numbers of workers and turns, and what
+-- is reported besides
 pub record Run : Type 0 where
   pub numbers : List Text
   pub workers_named : Option ℕ
@@ -61,14 +62,14 @@ pub record Run : Type 0 where
   pub dumps : Bool
   pub traces : Bool
 
--- The program of a file is run; it is checked; or the sample of so many colours is run.
+-- The program of a file is run; it is checked; or the sample of a number of colours is run.
 pub data Command : Type 0 where
   runs : Text → Run → Command
   checks : Text → Command
   samples : ℕ → Run → Command
 
--- what the uses come to: the positional words, the values of the options and whether the flags stand
--- there
+-- the meaning of the uses: the positional words, the values of the options and whether the flags
+-- are given
 pub record Said : Type 0 where
   pub words : List Text
   pub workers_text : Option Text
@@ -85,7 +86,7 @@ said_by all = record {
   traces = has_flag trace all;
 }
 
--- to run: a file and numbers
+-- the `run` command: a file and numbers
 abbrev pub run_of : Said → List Text → Option ℕ → Option ℕ → Option Command
 run_of said [] w t = None
 run_of said (file ∷ numbers) w t = Some (runs file (record {
@@ -96,13 +97,14 @@ run_of said (file ∷ numbers) w t = Some (runs file (record {
   traces = said.traces;
 }))
 
--- to check: one file and no other word
+-- the `check` command: one file and no other word
 abbrev pub check_of : List Text → Option Command
 check_of [] = None
 check_of (file ∷ []) = Some (checks file)
 check_of (file ∷ word ∷ words) = None
 
--- the sample is run by so many workers, without numbers, by as many turns as hold where none are named
+-- the run of the sample: by the given number of workers, without numbers, with the default number
+-- of turns
 abbrev pub sample_run : Option ℕ → Run
 sample_run w = record {
   numbers = [];
@@ -112,13 +114,13 @@ sample_run w = record {
   traces = false;
 }
 
--- a sample: one number and no other word
+-- the `sample` command: one number and no other word
 abbrev pub sample_of : List Text → Option ℕ → Option Command
 sample_of [] w = None
 sample_of (colours ∷ []) w = option_map (λ n. samples n (sample_run w)) (number 1 most_colours colours)
 sample_of (colours ∷ word ∷ words) w = None
 
--- the command of this name, where this is said
+-- the command of this name, given the meaning of the uses
 abbrev pub command_of : CommandName → Said → Option Command
 command_of run said = option_and_then (λ w. option_and_then (run_of said said.words w)
     (number_named most_turns said.turns_text)) (number_named most_workers said.workers_text)
@@ -130,12 +132,12 @@ command_of sample said =
 abbrev pub command_if_single : CommandName → List Use → Option Command
 command_if_single name all = if is_single all then command_of name (said_by all) else None
 
--- the command of this name, with the words behind it
+-- the command of this name, with the words after it
 abbrev pub named_command : CommandName → List Text → Option Command
 named_command name words =
     option_and_then (command_if_single name) (uses (settings_of name) None words)
 
--- What the words say. The first is the program's name, and the second that of the command.
+-- The meaning of words. The first is the program's name, and the second that of the command.
 abbrev pub command : List Text → Option Command
 command [] = None
 command (program ∷ []) = None

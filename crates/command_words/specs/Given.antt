@@ -1,4 +1,4 @@
--- The commands and what words say, as the code has them.
+-- The commands and the meaning of words, in the code's types.
 use Rattle.std.specs.Prelude.{List, [], unwrap_or, String, map, option_map, string_bytes}
 use Rattle.command_words.specs.Commands.{Command, Run, Said, checks, runs, samples}
 use Rattle.command_words.specs.Settings.{Text}

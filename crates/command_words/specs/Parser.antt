@@ -1,4 +1,4 @@
--- The command that clap is given: one simple command, with a subcommand for each command.
+-- The command definition for clap: one simple command, with a subcommand for each command.
 use Rattle.std.specs.Prelude.{true, Some, codes, cond}
 use Rattle.clap.specs.Walk.{Rule}
 use Rattle.clap.specs.Simple.{App, new_app, new_rule, with_rule, with_subcommand}

@@ -4,7 +4,7 @@ use Rattle.std.specs.Prelude.{ℕ, Bool, true, false, List, [], ◌∷◌, Optio
 abbrev pub Text : Type 0
 Text = List ℕ
 
--- what a word `--NAME` sets
+-- the setting that a word `--NAME` is for
 pub data Setting : Type 0 where
   workers : Setting
   turns : Setting

@@ -1,25 +1,25 @@
--- What the words behind the command say, one after the other: settings and positional words.
+-- The uses in the words after the command, one after the other: settings and positional words.
 use Rattle.std.specs.Prelude.{◌==◌, ◌&&◌, Bool, true, false, not, List, [], ◌∷◌, Option, Some, None, map, option_map, if◌then◌else◌}
 use Rattle.std.specs.List.{after_first, before_first, list_any}
 use Rattle.command_words.specs.Settings.{Setting, Text, same_setting, setting_named, takes_value}
 
 -- ---- one word
 
--- What a word before `--` looks like: it is `--` itself, or `--NAME` or `--NAME=VALUE`, or another
--- word of two bytes or more that begins with `-`, or one that stands for itself. So `-` alone and
--- the word without a byte stand for themselves.
+-- The form of a word before `--`: it is `--` itself, or `--NAME` or `--NAME=VALUE`, or another word
+-- of two bytes or more that begins with `-`, or a plain word. So `-` alone and the empty word are
+-- plain.
 pub data Form : Type 0 where
   separator : Form
   setting : Text → Option Text → Form
   dashed : Form
   plain : Form
 
--- the name stands before the first `=` (61), and the value behind it
+-- the name is before the first `=` (61), and the value after it
 abbrev pub setting_form : Text → Form
 setting_form text = setting (before_first (λ b. b == 61) text)
     (if list_any (λ b. b == 61) text then Some (after_first (λ b. b == 61) text) else None)
 
--- the text behind `--`
+-- the text after `--`
 abbrev pub double_form : Text → Form
 double_form [] = separator
 double_form (b ∷ text) = setting_form (b ∷ text)
@@ -49,8 +49,8 @@ Uses = Option (List Use)
 abbrev pub with_use : Use → Uses → Uses
 with_use first uses = option_map (λ more. first ∷ more) uses
 
--- a setting, with the value that its own word has; `rest` are the uses of the words behind it, where
--- an option waits for its value or where none does
+-- a setting, with the value in its own word; `rest` are the uses of the words after it, if an
+-- option waits for its value or none does
 abbrev pub at_option : Setting → Option Text → (Option Setting → Uses) → Uses
 at_option s None rest = rest (Some s)
 at_option s (Some value) rest = with_use (option s value) (rest None)
@@ -64,7 +64,7 @@ at_setting None value rest = None
 at_setting (Some s) value rest =
     if takes_value s then at_option s value rest else at_flag s value rest
 
--- a word of this form, and the words behind it
+-- a word of this form, and the words after it
 abbrev pub at_word : List Setting → Form → Text → List Text → (Option Setting → Uses) → Uses
 at_word known separator word words rest = Some (map positional words)
 at_word known (setting name value) word words rest =
@@ -72,9 +72,9 @@ at_word known (setting name value) word words rest =
 at_word known dashed word words rest = None
 at_word known plain word words rest = with_use (positional word) (rest None)
 
--- The uses that the words say, where `known` are the settings of the command, and an option may be
--- waiting for its value. Its value is the next word; that is a number, so one that begins with `-`
--- and has more bytes is none. Behind `--` all words are positional.
+-- The uses in the words, where `known` are the settings of the command, and an option may be
+-- waiting for its value. Its value is the next word. That is a number, so a longer word that begins
+-- with `-` isn't one. After `--` all words are positional.
 abbrev pub uses : List Setting → Option Setting → List Text → Uses
 uses known None [] = Some []
 uses known None (word ∷ words) =
@@ -83,7 +83,7 @@ uses known (Some s) [] = None
 uses known (Some s) (word ∷ words) =
     if is_plain (form_of word) then with_use (option s word) (uses known None words) else None
 
--- ---- what the uses come to
+-- ---- the meaning of the uses
 
 abbrev pub is_of : Setting → Use → Bool
 is_of s (flag t) = same_setting t s
@@ -109,7 +109,7 @@ value_in s (flag t) later = later
 value_in s (option t value) later = if same_setting t s then Some value else later
 value_in s (positional word) later = later
 
--- the value of an option, where it is used
+-- the value of an option, if it is used
 abbrev pub value_of : Setting → List Use → Option Text
 value_of s [] = None
 value_of s (first ∷ uses) = value_in s first (value_of s uses)

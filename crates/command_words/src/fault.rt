@@ -1,15 +1,15 @@
-//! Why words give no command.
+//! The reasons why words are not a command.
 
 use std::alloc::{AllocError, AllocFailed};
 use thiserror::Error;
 
-/// Why words give no command.
+/// The reason why words are not a command.
 #[derive(Debug, Drop, Error)]
 pub enum WordsFault {
     /// The words are refused.
     #[error("the words are no command")]
     Refused,
-    /// There is no memory.
+    /// Out of memory.
     #[error(transparent)]
     Memory(AllocError),
 }

@@ -1,4 +1,4 @@
-//! The command that clap is given.
+//! The command definition for clap.
 
 ghost use Rattle.std.specs.Prelude.{◌≡◌, IfOk, Some, false};
 ghost use Rattle.clap.specs.Words.{app_of, new_rule, rule_of};
@@ -23,7 +23,7 @@ fn words<'a>(alloc: Global) -> Arg<'a>
     Arg::new(alloc, "words").action(ArgAction::Append)
 }
 
-/// A command that knows no call for help.
+/// A command that doesn't know `--help`.
 fn named<'a>(alloc: Global, name: &'a str) -> Command<'a>
     ensures { app_of result ≡ named_app name.entry.now }
 {

@@ -17,7 +17,7 @@ use clap::Error;
 use clap::error::ErrorKind;
 use std::alloc::{AllocError, Global};
 
-/// To run: a file and numbers.
+/// The `run` command: a file and numbers.
 fn to_run<'a>(
     alloc: Global,
     said: Said<'_, 'a>,
@@ -44,7 +44,7 @@ fn to_run<'a>(
     }))
 }
 
-/// To run, with the numbers that the options name.
+/// The `run` command, with the numbers that the options give.
 fn run_of<'a>(alloc: Global, said: Said<'_, 'a>) -> Result<Option<Command<'a>>, AllocError>
     ensures { IfOk result (λ made. option_map command_given made ≡ command_of run (said_given said.entry)) }
 {
@@ -57,7 +57,7 @@ fn run_of<'a>(alloc: Global, said: Said<'_, 'a>) -> Result<Option<Command<'a>>, 
     to_run(alloc, said, workers, turns)
 }
 
-/// To check: one file and no other word.
+/// The `check` command: one file and no other word.
 fn check_of<'a>(said: Said<'_, 'a>) -> Option<Command<'a>>
     ensures { option_map command_given result ≡ command_of check (said_given said.entry) }
 {
@@ -67,7 +67,7 @@ fn check_of<'a>(said: Said<'_, 'a>) -> Option<Command<'a>>
     }
 }
 
-/// A sample: one number and no other word.
+/// The `sample` command: one number and no other word.
 fn sample_of<'a>(alloc: Global, said: Said<'_, 'a>) -> Option<Command<'a>>
     ensures { option_map command_given result ≡ command_of sample (said_given said.entry) }
 {
@@ -87,7 +87,7 @@ fn sample_of<'a>(alloc: Global, said: Said<'_, 'a>) -> Option<Command<'a>>
     }
 }
 
-/// The command of this name, where this is said.
+/// The command of this name, given what clap found.
 fn command_of<'a>(
     alloc: Global,
     name: &str,
@@ -107,7 +107,7 @@ fn command_of<'a>(
     }
 }
 
-/// Why clap fails: the words are refused, or there is no memory.
+/// Why clap failed: the words are refused, or it is out of memory.
 fn fault_of(error: &Error) -> WordsFault
     ensures { result ≡ Refused → kind_of error.now ≢ OutOfMemory }
 {
@@ -117,7 +117,7 @@ fn fault_of(error: &Error) -> WordsFault
     }
 }
 
-/// The command that the words say. The first of them is the program's name.
+/// The command in the words. The first of them is the program's name.
 pub fn command<'a>(alloc: Global, words: &'a [String]) -> Result<Command<'a>, WordsFault>
     ensures taken { IfOk result (λ said. command (texts words.entry.now) ≡ Some (command_given said)) }
     ensures refused { IfErr result (λ fault. fault ≡ Refused → command (texts words.entry.now) ≡ None) }

@@ -1,4 +1,4 @@
-//! What clap found in the words behind a command.
+//! The results of clap on the words after a command.
 
 ghost use Rattle.std.specs.Prelude.{◌≡◌};
 ghost use Rattle.clap.specs.Words.{first_of, found_of, rows_of};
@@ -7,7 +7,7 @@ ghost use Rattle.command_words.specs.Matched.{is_set, said_in};
 
 use clap::ArgMatches;
 
-/// The positional words, the values of the options and whether the flags stand there.
+/// The positional words, the values of the options and whether the flags are given.
 #[derive(Clone, Copy, Debug)]
 pub struct Said<'m, 'a> {
     pub words: Option<&'m [&'a str]>,
@@ -17,7 +17,7 @@ pub struct Said<'m, 'a> {
     pub trace: bool,
 }
 
-/// Whether a flag stands there.
+/// Whether a flag is given.
 fn is_set(found: &ArgMatches<'_>, flag: &str) -> bool
     ensures { result ≡ is_set (first_of flag.now (rows_of (found_of found.now))) }
 {

@@ -1,4 +1,4 @@
--- Demanded loops that are index launches, and one for each thing that speaks against it.
+-- Demanded loops that are index launches, and one for each reason against it.
 use Rattle.std.specs.Prelude.{◌≡◌, [], ◌∷◌, Some, None}
 use Rattle.regent_tree.specs.Syntax.{Tree, convert_expr}
 use Rattle.regent_tree.specs.declared.program.Grant.TheVariants.{Reads, Writes}
@@ -63,7 +63,7 @@ loops_program =
 abbrev pub LoopsAreTold : Type 0
 LoopsAreTold = (launch_lines loops_program ≡ 20 ∷ 21 ∷ 22 ∷ []) × (interference_lines loops_program ≡ 18 ∷ 19 ∷ [])
 
--- shapes are told of all loops, whether they are under a demand or not
+-- all loops have shapes, whether they are under a demand or not
 abbrev pub ShapesAreTold : Type 0
 ShapesAreTold = (shape_on loops_program 17 0 ≡ Some Launch)
     × (shape_on loops_program 19 0 ≡ Some (Plain (reason.Interferes 0 1)))

@@ -1,4 +1,4 @@
--- The parts of what stands in lists, as the code sees it.
+-- The parts of lists, as the code sees them.
 use Rattle.std.specs.Prelude.{Bool, true, false, List, [], ◌∷◌, ◌++◌}
 use Rattle.regent_tree.specs.Syntax.{ItemForm, task_item, space_item}
 use Rattle.regent_tree.specs.declared.expression.Step.{Step, Field, At}

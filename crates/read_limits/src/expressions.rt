@@ -52,7 +52,7 @@ pub fn in_expression(e: &Expr) -> Option<Excess>
     }
 }
 
-/// The first excess behind the first member of a chain.
+/// The first excess after the first member of a chain.
 #[cycle(expression)]
 fn in_links(links: &[Link]) -> Option<Excess>
     ensures { result ≡ first_excess (parts_of_links (links_in links.now)) }

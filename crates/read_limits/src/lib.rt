@@ -1,5 +1,5 @@
-//! Whether a program keeps its limits: the first thing, in the order of the text, of which there are
-//! too many.
+//! Whether a program is within its limits: the first thing, in the order of the text, of which
+//! there are too many.
 #![tactic(auto)]
 
 mod expressions;

@@ -10,7 +10,7 @@ ghost use Rattle.read_limits.specs.Parts.{is_space, is_task};
 use crate::statements::{in_params, in_statements, in_type};
 use regent_tree::{Counted, Excess, FieldSpace, Item, ItemKind, Program, Task};
 
-/// How many there may be.
+/// The limit of a counted thing.
 fn most(what: Counted) -> usize
     ensures { result ≡ most what }
 {
@@ -23,7 +23,7 @@ fn most(what: Counted) -> usize
     }
 }
 
-/// More of what is counted than there may be.
+/// An excess, if the count is over its limit.
 fn excess(what: Counted, count: usize) -> Option<Excess>
     ensures { result ≡ first_excess (counted what count ∷ []) }
 {
@@ -95,7 +95,7 @@ fn is_space(item: &Item) -> bool
     }
 }
 
-/// How many tasks there are.
+/// The number of tasks.
 fn tasks_in(items: &[Item]) -> usize
     ensures { result ≡ tasks_in (map item_tree_of items.now) }
 {
@@ -108,7 +108,7 @@ fn tasks_in(items: &[Item]) -> usize
     count
 }
 
-/// How many field spaces there are.
+/// The number of field spaces.
 fn spaces_in(items: &[Item]) -> usize
     ensures { result ≡ spaces_in (map item_tree_of items.now) }
 {

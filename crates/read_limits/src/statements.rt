@@ -22,7 +22,7 @@ pub fn in_term(term: &TypeTerm) -> Option<Excess>
     }
 }
 
-/// The first excess in a type that may be left out.
+/// The first excess in an optional type.
 pub fn in_type(term: &Option<TypeTerm>) -> Option<Excess>
     ensures { result ≡ first_excess (parts_of_type term.now) }
 {
@@ -76,7 +76,7 @@ fn in_value(value: &Option<Expr>) -> Option<Excess>
     }
 }
 
-/// The first excess in what a statement is.
+/// The first excess in the form of a statement.
 #[cycle(statement)]
 fn in_form(what: &What) -> Option<Excess>
     ensures { result ≡ first_excess (parts_of_form (form_of what.now)) }

@@ -1,4 +1,4 @@
-//! The program `regent`: does what the words of its command line say.
+//! The program `regent`: executes the command in the words of its command line.
 #![tactic(auto)]
 
 use regent_run::regent_here;

@@ -1,4 +1,5 @@
--- What a text comes to: the tree of the program that it spells, or the first cause why it is none.
+-- The outcome of a text: the tree of the program that it spells, or the first reason why it isn't
+-- one.
 use Rattle.std.specs.Prelude.{◌≡◌, ◌==◌, ◌^◌, ℕ, suc, ◌<◌, ◌≤◌, List, [], ◌∷◌, Option, Some, None, Result, Ok, Err, All, MatchOption, filter, length}
 use Rattle.regent_lex.specs.declared.token.Token.{Token}
 use Rattle.regent_lex.specs.Texts.{Lexed, Lexes}
@@ -22,11 +23,11 @@ Outcome = Result Tree ReadFault
 abbrev pub text_limit : ℕ
 text_limit = 1048576
 
--- the line on which a text ends: its line feeds (10) and one
+-- the line on which a text ends: the number of its line feeds (10) plus one
 abbrev pub last_line : List ℕ → ℕ
 last_line text = suc (length (filter (λ b. b == 10) text))
 
--- the line of the first of these terminals, or else of the text's end
+-- the line of the first of these terminals, or of the text's end if there are none
 abbrev pub line_at : List ℕ → List Terminal → ℕ
 line_at text [] = last_line text
 line_at text (t ∷ ts) = t.line
@@ -39,31 +40,31 @@ counted tree (Some e) = Err (TooMany e.what e.count)
 abbrev pub counted_program : Tree → Outcome
 counted_program tree = counted tree (first_excess (parts_of_program tree))
 
--- what terminals come to: their tree, or the line of the first that no production takes
+-- the outcome of terminals: their tree, or the line of the first that no production takes
 pub data Parses (text : List ℕ) (ls : List Terminal) : Outcome → Type 0 where
   is_tree : {tree : Tree} → IsProgram ls tree → Parses text ls (counted_program tree)
   is_none : {at : List Terminal} → IsNoProgram ls at →
       Parses text ls (Err (NoProgram (line_at text at)))
 
--- but first, nesting over all of them
+-- the same after a test of the nesting over all of them
 abbrev pub Nests : List ℕ → List Terminal → Outcome → Type 0
 Nests text ls outcome =
     MatchOption (too_deep ls) (Parses text ls outcome) (λ line. outcome ≡ Err (TooDeep line))
 
--- what tokens come to, or the first fault in their place
+-- the outcome of tokens, or of the first fault in their place
 abbrev pub OfTokens : List ℕ → Lexed → Outcome → Type 0
 OfTokens text (Ok tokens) outcome = Nests text (terminals text tokens) outcome
 OfTokens text (Err fault) outcome = outcome ≡ Err (Lex fault.0 fault.1)
 
--- what a text comes to
+-- the outcome of a text
 pub data Reads (text : List ℕ) : Outcome → Type 0 where
   is_long : text_limit < length text → Reads text (Err TooLong)
   has_tokens : {lexed : Lexed} {outcome : Outcome} → length text ≤ text_limit →
       Lexes text 0 1 lexed → OfTokens text lexed outcome → Reads text outcome
 
--- ---- what a call answers
+-- ---- the result of a call
 
--- the outcome is so, or memory ran out
+-- P holds for the outcome, or memory ran out
 abbrev pub Answers : (Outcome → Type 0) → Result Program ReadFault → Type 0
 Answers P (Ok program) = P (Ok (tree_of program))
 Answers P (Err (Memory error)) = Unit {0}
@@ -73,7 +74,7 @@ Answers P (Err fault) = P (Err fault)
 abbrev pub Has : Outcome → Result Program ReadFault → Type 0
 Has outcome result = Answers (λ other. other ≡ outcome) result
 
--- ---- on the way there
+-- ---- intermediate results
 
 -- these are the terminals of the text
 pub record IsLexed (text : List ℕ) (ls : List Terminal) : Type 0 where
@@ -81,12 +82,12 @@ pub record IsLexed (text : List ℕ) (ls : List Terminal) : Type 0 where
   pub lexed : Lexes text 0 1 (Ok tokens)
   pub same : ls ≡ terminals text tokens
 
--- so few terminals, whose numbers are of their widths
+-- the number of terminals is within the text's limit, and their numbers fit their widths
 pub record AreWithin (ls : List Terminal) : Type 0 where
   pub numbers : All (λ (t : Terminal). NumberFits t.symbol) ls
   pub short : length ls ≤ text_limit
 
--- what the tree has too much of can be counted in 32 bits
+-- a count of the tree that is over its limit fits in 32 bits
 abbrev pub HasSmallCounts : Tree → Type 0
 HasSmallCounts tree =
     (e : Excess) → first_excess (parts_of_program tree) ≡ Some e → e.count < 2 ^ 32

@@ -1,11 +1,11 @@
-//! Why a text is no program.
+//! The reasons why a text isn't a program.
 
 use regent_lex::LexKind;
 use regent_tree::Counted;
 use std::alloc::{AllocError, AllocFailed};
 use thiserror::Error;
 
-/// Why a text is no program. The causes are tested in this order.
+/// The reason why a text isn't a program. The causes are tested in this order.
 #[derive(Debug, Drop, Error)]
 pub enum ReadFault {
     /// The text has more than 1,048,576 bytes.
@@ -17,12 +17,11 @@ pub enum ReadFault {
     /// Nesting passes 64 on this line.
     #[error("line {line}: nested too deeply")]
     TooDeep { line: u32 },
-    /// The tokens are no program. The line is where the grammar can't go on: that of a token, or that of
+    /// The tokens aren't a program. The line is that of the token at which the grammar stops, or of
     /// the text's end.
     #[error("line {line}: no program goes on here")]
     NoProgram { line: u32 },
-    /// There are too many of something. The first such place in the text is told, and how many there
-    /// are.
+    /// There are too many of something: the first such count in the text.
     #[error("too many {what:?}: {count}")]
     TooMany { what: Counted, count: u32 },
     #[error(transparent)]

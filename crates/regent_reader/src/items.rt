@@ -27,7 +27,7 @@ fn task(alloc: Global, terminals: &[Terminal]) -> Result<(Task, &[Terminal]), St
     Ok((head.with_body(body), rest))
 }
 
-/// What an item is.
+/// The form of an item.
 #[tactic(auto, unfolding(regent_grammar::proofs::Opening::reading, regent_grammar::specs::Items::item_form))]
 fn item_kind(alloc: Global, terminals: &[Terminal]) -> Result<(ItemKind, &[Terminal]), Stop<'_>>
     ensures { Gives (λ x. read (item_of x.0) x.1.now) result (reading item_form terminals.now) }
@@ -87,7 +87,7 @@ fn more_items(
     Ok(items)
 }
 
-/// The program that all of the terminals are.
+/// The program that the terminals spell, up to the last.
 #[tactic(auto, unfolding(regent_grammar::proofs::Opening::reading, regent_grammar::specs::Items::program))]
 pub fn program(alloc: Global, terminals: &[Terminal]) -> Result<Program, Stop<'_>>
     ensures { Gives (λ p. read (tree_of p) []) result (reading program terminals.now) }

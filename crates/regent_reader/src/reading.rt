@@ -42,7 +42,7 @@ fn last_line(text: &[u8]) -> u32
     line
 }
 
-/// The line of the first of these terminals, or else of the text's end.
+/// The line of the first of these terminals, or of the text's end if there are none.
 fn line_at(text: &[u8], terminals: &[Terminal]) -> u32
     requires { length text.now ≤ 1048576 }
     ensures { result ≡ line_at text.now terminals.now }
@@ -69,7 +69,7 @@ fn counted(program: Program) -> Result<Program, ReadFault>
     }
 }
 
-/// What terminals come to that aren't nested too deeply.
+/// The outcome of terminals that aren't nested too deeply.
 fn parsed(alloc: Global, text: &[u8], terminals: &[Terminal]) -> Result<Program, ReadFault>
     requires short { length text.now ≤ 1048576 }
     requires within { AreWithin terminals.now }
@@ -85,7 +85,7 @@ fn parsed(alloc: Global, text: &[u8], terminals: &[Terminal]) -> Result<Program,
     }
 }
 
-/// What terminals come to.
+/// The outcome of terminals.
 fn nested(alloc: Global, text: &[u8], terminals: &[Terminal]) -> Result<Program, ReadFault>
     requires short { length text.now ≤ 1048576 }
     requires within { AreWithin terminals.now }
@@ -98,14 +98,14 @@ fn nested(alloc: Global, text: &[u8], terminals: &[Terminal]) -> Result<Program,
     }
 }
 
-/// The program that a text spells, or the first cause why it is none: too many bytes, no tokens,
+/// The program that a text spells, or the first reason why it isn't one: too many bytes, no tokens,
 /// nesting that is too deep anywhere, a token that no production takes, or too many of something.
 pub fn read(alloc: Global, text: &[u8]) -> Result<Program, ReadFault>
-    // The answer is what the text comes to.
+    // The result is the outcome of the text.
     ensures reads { Answers (Reads text.now) result }
-    // What is read is within the limits of a tree.
+    // A program that is read is within the limits of a tree.
     ensures within { IfOk result (λ p. WithinLimits (tree_of p)) }
-    // A text comes to one thing at most, and that is the answer unless memory runs out.
+    // A text has at most one outcome, and that is the result unless memory runs out.
     ensures only { (outcome : Outcome) → Reads text.now outcome → Has outcome result }
 {
     if text.len() > 1_048_576 {

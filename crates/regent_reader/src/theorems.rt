@@ -2,7 +2,7 @@
 
 ghost use Rattle.regent_reader.specs.Laws.{OneOutcome};
 
-/// A text comes to one tree or to one fault, and to no other.
+/// A text has one tree or one fault as its outcome, and no other.
 pub fn one_outcome()
     ensures { OneOutcome }
 {}

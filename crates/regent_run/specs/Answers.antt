@@ -1,4 +1,4 @@
--- What a call answers, what it writes and what it reads.
+-- The result of a call, and its input and output.
 use Rattle.std.specs.Prelude.{◌≡◌, ◌≢◌, ◌≤◌, ◌⊎◌, ◌++◌, ℕ, List, [], Some, None, IfSome, length}
 use Rattle.std.specs.Option.{option_map}
 use Rattle.run_io.specs.Faults.{Rose}
@@ -18,28 +18,28 @@ use Rattle.regent_run.specs.Traces.{IsJournalOf, IsTrace, serving}
 use Rattle.regent_run.specs.Verdicts.{CantBeRead, HasFailed, HasGained, IsUntouched}
 use Rattle.regent_run.specs.Words.{Asks, Deed, Request, checks, request, runs}
 
--- This is the text that is asked for: the one that the begin of the source leaves, as far as the source tells it, or the
--- sample.
+-- This is the requested text: the one that the begin of the source leaves, if the source reports
+-- it, or the sample.
 pub record IsTheText (call : Call) (text : List ℕ) : Type 0 where
   pub named : Request
   pub is_asked : request call.words ≡ Some named
   pub told : IfSome (text_from named.origin call.source.later) (λ known. text ≡ known)
 
--- This holds of the text of the call, where the source tells it, or it is the sample.
+-- This holds for the text of the call, if the source reports it, or it is the sample.
 abbrev pub IfTold : Call → (List ℕ → Type 0) → Type 0
 IfTold call P = IfSome (text_asked (request call.words) call.source.later) P
 
--- ---- what a call comes to, and how it ends
+-- ---- the outcome of a call, and how it ends
 
 -- the trace of a run of the text in this call
 abbrev pub IsTraced : Call → List ℕ → Run → List ℕ → Type 0
 IsTraced call text r trace =
     IsTrace (λ journal. IsJournalOf text r journal) r.traces (serving call.serves r) trace
 
--- What a command prints, and what it tells besides, with its status. A run prints what the program prints,
--- by the meaning of its text, to its end or up to the first fault, and behind an end the dump that is asked for. It
--- tells its trace where that is asked for, and the fault. A check prints that the text is accepted. Status, print and trace
--- are of one text.
+-- The output of a command, and its error output without an error, with its status. A run prints the
+-- text that its program's meaning prints, to its end or up to the first fault, and after an end the
+-- dump, if it is asked for. It reports its trace, if it is asked for, and the fault. A check prints
+-- that the text is accepted. Status, print and trace are of one text.
 pub data IsPrinted (call : Call) : ℕ → List ℕ → List ℕ → Type 0 where
   finished : (text : List ℕ) (r : Run) {printed trace : List ℕ} → IsTheText call text →
       Asks call.words (runs r) → IsFinished text r printed → IsTraced call text r trace →
@@ -50,7 +50,7 @@ pub data IsPrinted (call : Call) : ℕ → List ℕ → List ℕ → Type 0 wher
   accepted : (text : List ℕ) → IsTheText call text → Asks call.words checks → IsAccepted text →
       IsPrinted call 0 accepted_text []
 
--- the status of an error, and the line that tells it
+-- the status of an error, and the line that reports it
 pub data Fails (call : Call) : ℕ → List ℕ → Type 0 where
   usage : request call.words ≡ None → Fails call 2 usage_message
   unread : CantBeRead (request call.words) call.source.faults call.source.faults_now → Fails call 3 read_message
@@ -64,7 +64,7 @@ pub data Fails (call : Call) : ℕ → List ℕ → Type 0 where
   inputs : (text : List ℕ) (r : Run) → IsTheText call text → Asks call.words (runs r) →
       HasOtherInputs text r.numbers → Fails call 9 inputs_message
 
--- the output has gained what is printed, and the error output what is told besides
+-- the output has gained the printed text, and the error output the reported one
 pub record HasPrinted (printed told : List ℕ) (call : Call) : Type 0 where
   pub output : Adds call.out.held printed call.out.held_now
   pub errors : Adds call.err.held told call.err.held_now
@@ -78,9 +78,9 @@ pub record HasTold (message : List ℕ) (call : Call) : Type 0 where
 abbrev pub HasReadWell : Call → Type 0
 HasReadWell call = call.source.faults_now ≡ call.source.faults
 
--- How a call ends, with its status. Where a write failed, which its sink wasn't sure of, the status is 4,
--- and nothing was written after it. What was being written was told of a source of which no call had failed, but where
--- it was the line that says that one had.
+-- How a call ends, with its status. If a write failed of which its sink wasn't sure, the status is
+-- 4, and nothing was written after it. Then no call of the source had failed, unless the line being
+-- written was the one that reports such a failure.
 pub data Ends (call : Call) : ℕ → Type 0 where
   prints : {status : ℕ} {printed told : List ℕ} → IsPrinted call status printed told →
       HasPrinted printed told call → Ends call status
@@ -103,7 +103,7 @@ UnlessStopped status answer = (answer ≡ status) ⊎ ((answer ≡ 7) ⊎ (answe
 abbrev pub UnlessUnread : ℕ → ℕ → Type 0
 UnlessUnread status answer = UnlessStopped status answer ⊎ (answer ≡ 3)
 
--- where the words ask for a text, it comes to this status alone, unless the call was stopped
+-- if the words ask for a text, its status is the only one, unless the call was stopped
 abbrev pub ComesTo : Call → ℕ → Type 0
 ComesTo call answer = (named : Request) → request call.words ≡ Some named →
     IfTold call (λ text. (n : ℕ) → Comes text named.deed n → UnlessUnread n answer)
@@ -121,29 +121,29 @@ IsComplete call answer = NoneRose call → (named : Request) → request call.wo
 
 -- ---- sinks that are sure
 
--- the output is sure of what the command prints
+-- the output is sure of the printed text of the command
 abbrev pub IsSureOfOutput : Call → Type 0
 IsSureOfOutput call = (status : ℕ) (printed told : List ℕ) → IsPrinted call status printed told →
     length printed ≤ call.out.sure
 
--- the error output is sure of what is told besides, and of each line that the call may come to
+-- the error output is sure of the reported text of the command, and of each error line of the call
 pub record IsSureOfErrors (call : Call) : Type 0 where
   pub besides : (status : ℕ) (printed told : List ℕ) → IsPrinted call status printed told →
       length told ≤ call.err.sure
   pub lines : (status : ℕ) (message : List ℕ) → Fails call status message →
       length message ≤ call.err.sure
 
--- ---- what is read
+-- ---- input
 
 -- the source wasn't begun
 abbrev pub IsNotBegun : Call → Type 0
 IsNotBegun call = IsUnbegun call.source
 
--- the source was begun once more, by the file that the words name, or not, where they ask for a sample
+-- the source was begun once more, by the file that the words name, or not, if they ask for a sample
 abbrev pub IsBegunOnce : Call → Type 0
 IsBegunOnce call = IsBegunFor (request call.words) call.source
 
--- of what the begin leaves at most so many bytes were taken
+-- at most this many bytes were taken of what the begin leaves
 abbrev pub Takes : ℕ → Call → Type 0
 Takes most call =
     TakesAtMost most (option_map next_left call.source.later) call.source.left call.source.left_now
@@ -153,29 +153,29 @@ abbrev pub IsReadWhole : Call → Type 0
 IsReadWhole call = IfSome (begun_for (request call.words) call.source.later)
     (λ text. length text ≤ 1048576 → IfSome call.source.left_now (λ rest. rest ≡ []))
 
--- the status of a text that was read: none of those before
+-- the status of a text that was read: none of the statuses of other causes
 abbrev pub IsOfText : ℕ → Type 0
 IsOfText n = (n ≢ 2) × (n ≢ 3) × (n ≢ 4) × (n ≢ 7)
 
 -- ---- the whole
 
--- A call with this answer.
+-- A call with this result.
 pub record IsAnswered (call : Call) (answer : ℕ) : Type 0 where
-  -- It ends in one of the ways above: what it prints or tells is so.
+  -- It ends in one of the ways above: its output is right.
   pub ends : Ends call answer
-  -- Words that are refused come to 2.
+  -- Words that are refused result in 2.
   pub refuses : request call.words ≡ None → UnlessStopped 2 answer
-  -- A text with its command comes to one of 0, 1, 5, 6, 8 and 9 at most, and that is the answer
-  -- unless the call was stopped. So where nothing failed, it is the answer, or memory ran out.
+  -- A text with its command has at most one of the statuses 0, 1, 5, 6, 8 and 9, and that is the
+  -- result unless the call was stopped. So if nothing failed, it is the result, or memory ran out.
   pub comes : ComesTo call answer
   pub complete : IsComplete call answer
-  -- No write fails where the sinks are sure of what may be written.
+  -- No write fails if the sinks are sure of all that may be written.
   pub sure : IsSureOfOutput call → IsSureOfErrors call → answer ≢ 4
-  -- Nothing failed but where 3 or 4 says so.
+  -- Nothing failed unless the status is 3 or 4.
   pub read : answer ≢ 3 → answer ≢ 4 → HasReadWell call
   pub steady : answer ≢ 4 →
       (call.out.faults_now ≡ call.out.faults) × (call.err.faults_now ≡ call.err.faults)
-  -- The source is begun once at most, by the file that the words name, and not for a sample.
+  -- The source is begun at most once, by the file that the words name, and not for a sample.
   pub begins : IsNotBegun call ⊎ IsBegunOnce call
   pub begun : IsOfText answer → IsBegunOnce call
   pub takes : Takes 1048577 call

@@ -24,13 +24,13 @@ abbrev pub IsBegunFrom : Origin → SourceChange → Type 0
 IsBegunFrom (file name) source = IsBegunBy name source
 IsBegunFrom (sample colours) source = IsUnbegun source
 
--- begun as this is asked for
+-- begun as requested
 pub record IsBegunFor (asked : Option Request) (source : SourceChange) : Type 0 where
   pub named : Request
   pub is_asked : asked ≡ Some named
   pub begun : IsBegunFrom named.origin source
 
--- Where the words are refused, not begun; where memory ran out maybe not.
+-- If the words are refused, it isn't begun; if memory ran out, it may or may not be.
 abbrev pub Begins : Option Request → SourceChange → Result Plan Verdict → Type 0
 Begins asked source (Err Usage) = IsUnbegun source
 Begins asked source (Err NoMemory) = IsUnbegun source ⊎ IsBegunFor asked source

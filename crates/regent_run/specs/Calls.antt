@@ -1,10 +1,11 @@
--- A call: its words, its workers, and what its source and its sinks tell before and after it.
+-- A call: its words, its workers, and the reports of its source and its sinks before and after it.
 use Rattle.std.specs.Prelude.{ℕ, List, Option}
 use Rattle.run_io.specs.declared.source.Source.{Ghosts as SourceTells}
 use Rattle.run_io.specs.declared.sink.Sink.{Ghosts as SinkTells}
 
--- what a source tells before and after some calls: how many faults it has had, the bytes that are left,
--- how often it was begun and by which names; and before them the bytes that each later begin leaves
+-- the report of a source before and after some calls: its number of faults, the bytes that are
+-- left, how often it was begun and by which names; and, before them, the bytes that each later
+-- begin leaves
 pub record SourceChange : Type 0 where
   pub faults : ℕ
   pub faults_now : ℕ
@@ -30,8 +31,8 @@ source_change tells before now =
       names_now = tells.names now;
     }
 
--- what a sink tells before and after: how many faults it has had, and the bytes that it holds; and
--- before them how many bytes it is sure to take
+-- the report of a sink before and after: its number of faults, and the bytes that it holds; and,
+-- before them, the number of bytes that it is sure to take
 pub record SinkChange : Type 0 where
   pub faults : ℕ
   pub faults_now : ℕ
@@ -49,7 +50,7 @@ sink_change tells before now =
       held_now = tells.held now;
     }
 
--- the words, and how many workers serve where so many are asked for
+-- the words, and the number of workers that serve for each number requested
 pub record Call : Type 0 where
   pub words : List (List ℕ)
   pub serves : ℕ → ℕ

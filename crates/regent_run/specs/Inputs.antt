@@ -5,7 +5,7 @@ use Rattle.std.specs.Str.Parse.{IsNumeral, signed_digits_value, starts_with_minu
 use Rattle.lane_kernels.specs.Numbers.{FitsWidth}
 use Rattle.lane_kernels.specs.declared.numbers.Width.{Width}
 
--- what stands behind a `-`
+-- the part after a `-`
 abbrev pub digits_in : List ℕ → List ℕ
 digits_in word = cond (starts_with_minus word) (drop 1 word) word
 
@@ -23,9 +23,9 @@ AreInputs [] [] [] = Unit {0}
 AreInputs (w ∷ ws) (word ∷ words) (z ∷ zs) = IsInput w word z × AreInputs ws words zs
 AreInputs _ _ _ = ⊥
 
--- ---- what the code finds
+-- ---- results of the code
 
--- a number of 64 bits, or None where the word is none
+-- a number of 64 bits, or None if the word isn't one
 abbrev pub IsInt64 : List ℕ → Type 0
 IsInt64 word = IsNumber word × FitsSigned w64 (signed_digits_value 10 word)
 
@@ -33,12 +33,12 @@ abbrev pub IsRead : List ℕ → Option ℤ → Type 0
 IsRead word None = ¬ IsInt64 word
 IsRead word (Some z) = IsInt64 word × (z ≡ signed_digits_value 10 word)
 
--- the number of a width, or None where the word is none
+-- the number of a width, or None if the word isn't one
 abbrev pub IsFound : Width → List ℕ → Option ℤ → Type 0
 IsFound w word None = (z : ℤ) → IsInput w word z → ⊥
 IsFound w word (Some z) = IsInput w word z
 
--- the numbers of the words, or None where these are none
+-- the numbers of the words, or None if they don't fit
 abbrev pub AreFound : List Width → List (List ℕ) → Option (List ℤ) → Type 0
 AreFound ws words None = (zs : List ℤ) → AreInputs ws words zs → ⊥
 AreFound ws words (Some zs) = AreInputs ws words zs

@@ -1,4 +1,4 @@
--- What reading a text takes from its source.
+-- The effect of reading a text on its source.
 use Rattle.std.specs.Prelude.{◌≡◌, ◌≤◌, ◌⊎◌, ℕ, List, [], Option, Result, Err, IfSome, length}
 use Rattle.std.specs.Option.{option_map}
 use Rattle.run_io.specs.Source.{Moves, next_left}
@@ -10,18 +10,18 @@ use Rattle.regent_run.specs.declared.plan.Plan.{Plan}
 use Rattle.regent_run.specs.declared.verdict.Verdict.{Verdict}
 use Rattle.regent_run.specs.declared.verdict.Verdict.TheVariants.{Usage, Unread, NoMemory}
 
--- no call of the source failed, but where the text can't be read
+-- no call of the source failed, unless the text can't be read
 abbrev pub IsSteady : ℕ → ℕ → Result Plan Verdict → Type 0
 IsSteady before now (Err Unread) = Unit {0}
 IsSteady before now _ = now ≡ before
 
--- Of what the begin leaves at most so many bytes were taken; a begin that fails takes nothing of
+-- At most this many bytes were taken of what the begin leaves; a begin that fails takes nothing of
 -- what was left before.
 abbrev pub TakesAtMost : ℕ → Option (List ℕ) → Option (List ℕ) → Option (List ℕ) → Type 0
 TakesAtMost most begun before now =
     (now ≡ before) ⊎ ((moved : List ℕ) × (length moved ≤ most) × Moves begun moved now)
 
--- Where a text was judged, all that the begin leaves was read, or the text is too long.
+-- If a text was judged, all that the begin leaves was read, or the text is too long.
 abbrev pub ReadsToEnd : Option (List ℕ) → Option (List ℕ) → Result Plan Verdict → Type 0
 ReadsToEnd begun now (Err Usage) = Unit {0}
 ReadsToEnd begun now (Err Unread) = Unit {0}
@@ -29,8 +29,9 @@ ReadsToEnd begun now (Err NoMemory) = Unit {0}
 ReadsToEnd begun now _ =
     IfSome begun (λ text. length text ≤ 1048576 → IfSome now (λ left. left ≡ []))
 
--- What a call takes from its source: where a text came to something it was begun as asked for and read to its end, what
--- was taken is bounded, and no call of it failed but where the text can't be read.
+-- The effect of a call on its source: if a text was judged, the source was begun as requested and
+-- read to its end; the number of bytes taken is bounded, and no call of it failed unless the text
+-- can't be read.
 pub record UsesSource (asked : Option Request) (source : SourceChange) (judged : Result Plan Verdict) : Type 0 where
   pub begins : Begins asked source judged
   pub takes : TakesAtMost 1048577 (option_map next_left source.later) source.left source.left_now

@@ -1,4 +1,4 @@
--- What a check and a dump write to the output, and the messages that go to the error output. Each ends with a line
+-- The output of a check and a dump, and the messages for the error output. Each ends with a line
 -- feed (10).
 use Rattle.std.specs.Prelude.{ℕ, Bool, true, false, List, [], ◌∷◌, ◌++◌, codes, map}
 use Rattle.std.specs.Fmt.{decimal}
@@ -14,7 +14,7 @@ use Rattle.regent_run.specs.declared.limit.Limit.TheVariants.{Text, Name, Number
 abbrev pub accepted_text : List ℕ
 accepted_text = codes "accepted" ++ 10 ∷ []
 
--- the dump of roots by field spaces, each with its fields, where it is asked for
+-- the dump of roots by field spaces, each with its fields, if it is asked for
 abbrev pub dump_by : Bool → List SpaceCode → List RootImage → List ℕ
 dump_by true spaces roots = roots_from 0 spaces roots
 dump_by false spaces roots = []

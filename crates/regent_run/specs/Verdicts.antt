@@ -1,4 +1,4 @@
--- What a call comes to before it writes, and what it then writes.
+-- The verdict of a call before it writes, and its output.
 use Rattle.std.specs.Prelude.{◌≡◌, ◌<◌, ◌^◌, ◌⊎◌, ◌++◌, ℕ, ℤ, Contains, List, [], Option, Some, None, Result, Ok, Err, length, string_bytes}
 use Rattle.run_io.specs.Faults.{Rose}
 use Rattle.run_io.specs.Sink.{Adds, AddsPrefix}
@@ -39,7 +39,7 @@ status_of (Finished text trace) = 0
 status_of (Faulted text message) = 1
 status_of Accepted = 0
 
--- what goes to the output, and what to the error output
+-- the text for the output, and that for the error output
 abbrev pub out_text : Verdict → List ℕ
 out_text (Finished text trace) = text
 out_text (Faulted text message) = text
@@ -58,9 +58,10 @@ err_text (Finished text trace) = trace.items
 err_text (Faulted text message) = message.items
 err_text Accepted = []
 
--- ---- before a run: a plan of it (Ok), or what the call comes to without one (Err)
+-- ---- before a run: a plan of it (Ok), or a verdict without one (Err)
 
--- the plan of a run of an accepted program: its code, with the numbers that the words are, and what is asked for
+-- the plan of a run of an accepted program: its code, with its arguments in the words, and what is
+-- requested
 pub record IsPlan (tree : Tree) (r : Run) (plan : Plan) : Type 0 where
   pub inputs : List ℤ
   pub given : AreInputs (input_widths tree) r.numbers inputs
@@ -77,7 +78,7 @@ pub record IsSound (plan : Plan) : Type 0 where
   pub run : Run
   pub is_plan : IsPlan tree run plan
 
--- what is judged of a text, where this is to be done with it
+-- a plan or verdict is right for a text and a deed
 abbrev pub Judges : List ℕ → Deed → Result Plan Verdict → Type 0
 Judges text deed (Ok plan) =
     (r : Run) × (deed ≡ runs r) × (tree : Tree) × Reads text (Ok tree) × IsPlan tree r plan
@@ -91,32 +92,32 @@ Judges text deed (Err OtherInputs) = (r : Run) × (deed ≡ runs r) × HasOtherI
 Judges text deed (Err Accepted) = (deed ≡ checks) × IsAccepted text
 Judges text deed (Err _) = ⊥
 
--- of an accepted program that is run
+-- for an accepted program that is run
 abbrev pub JudgesRun : Tree → Run → Result Plan Verdict → Type 0
 JudgesRun tree r (Ok plan) = IsPlan tree r plan
 JudgesRun tree r (Err NoMemory) = Unit {0}
 JudgesRun tree r (Err OtherInputs) = TakesOthers tree r.numbers
 JudgesRun tree r (Err _) = ⊥
 
--- and of one with which this is to be done
+-- and for one with this deed
 abbrev pub JudgesAccepted : Tree → Deed → Result Plan Verdict → Type 0
 JudgesAccepted tree (runs r) judged = JudgesRun tree r judged
 JudgesAccepted tree checks judged = judged ≡ Err Accepted
 
--- the message of a breach of the tree
+-- the message of a violation in the tree
 pub record IsOfBreach (tree : Tree) (message : List ℕ) : Type 0 where
   pub rule : ℕ
   pub line : ℕ
   pub breach : Contains (breaches tree) (breaks rule line)
   pub told : message ≡ breach_message rule line
 
--- of a program that was read: it has a breach, or it is accepted
+-- for a program that was read: it has a violation, or it is accepted
 abbrev pub JudgesProgram : Tree → Deed → Result Plan Verdict → Type 0
 JudgesProgram tree deed (Err NoMemory) = Unit {0}
 JudgesProgram tree deed (Err (Refused message)) = IsOfBreach tree (string_bytes message)
 JudgesProgram tree deed judged = (breaches tree ≡ []) × JudgesAccepted tree deed judged
 
--- what it says of a text in which the reader finds a fault
+-- a verdict is right for a fault that the reader finds
 abbrev pub TellsFault : ReadFault → Verdict → Type 0
 TellsFault fault NoMemory = Unit {0}
 TellsFault fault (NoProgram message) =
@@ -124,7 +125,7 @@ TellsFault fault (NoProgram message) =
 TellsFault fault (PastLimit passed) = limit_passed fault ≡ Some passed
 TellsFault fault _ = ⊥
 
--- the same of one text, which is the one that is told, where one is told
+-- the same for one text, which is the reported one, if there is one
 abbrev pub SaysOfText : Option (List ℕ) → Deed → Result Plan Verdict → Type 0
 SaysOfText told deed judged = OfOneText told (λ text. Judges text deed judged)
 
@@ -133,8 +134,8 @@ pub record CantBeRead (asked : Option Request) (before now : ℕ) : Type 0 where
   pub of_file : AsksNoFile asked → ⊥
   pub rose : Rose before now
 
--- Where this is asked for: nothing can be done, or its text can't be read, or the text comes to it, or memory ran out. The
--- numbers are the source's count of faults before and after.
+-- For a request: there is none, or its text can't be read, or the plan or verdict is right for the
+-- text, or memory ran out. The numbers are the source's count of faults before and after.
 abbrev pub Says : Option Request → Option (List (List ℕ)) → ℕ → ℕ → Result Plan Verdict → Type 0
 Says asked later before now (Err Usage) = asked ≡ None
 Says asked later before now (Err Unread) = CantBeRead asked before now
@@ -144,7 +145,7 @@ Says asked later before now judged =
 
 -- ---- with the run
 
--- what a verdict says of the outcome of a run, where these are the dump and the trace
+-- a verdict is right for the outcome of a run, with this dump and this trace
 abbrev pub IsOfOutcome : Outcome → List ℕ → List ℕ → Verdict → Type 0
 IsOfOutcome o dump trace (Finished output told) = (told.items ≡ trace)
     × (printed : List ℕ) × (roots : List RootImage) × (o ≡ finished_with printed roots) × (output ≡ printed ++ dump)
@@ -152,7 +153,7 @@ IsOfOutcome o dump trace (Faulted printed message) =
     (f : Fault) × (message.items ≡ trace ++ fault_text f) × (o ≡ faulted_with printed f)
 IsOfOutcome o dump trace _ = ⊥
 
--- it tells the outcome of the job's run in order, with the dump and the trace that are asked for
+-- it has the outcome of the job's run in order, with the dump and the trace that are requested
 pub record IsOfRun (serves : ℕ → ℕ) (plan : Plan) (v : Verdict) : Type 0 where
   pub trace : List ℕ
   pub traced : IsTrace (FinishesJob plan.job) plan.traces (serves plan.workers) trace
@@ -164,7 +165,7 @@ abbrev pub TellsPlan : (ℕ → ℕ) → Plan → Verdict → Type 0
 TellsPlan serves plan NoMemory = Unit {0}
 TellsPlan serves plan v = IsOfRun serves plan v
 
--- What a verdict says of a text, where so many workers serve.
+-- A verdict is right for a text, with this many workers serving.
 abbrev pub TellsText : (ℕ → ℕ) → List ℕ → Deed → Verdict → Type 0
 TellsText serves text deed (Finished printed trace) = (r : Run) × (deed ≡ runs r)
     × IsTrace (λ journal. IsJournalOf text r journal) r.traces (serving serves r) trace.items
@@ -175,11 +176,11 @@ TellsText serves text deed (Faulted printed message) = (r : Run) × (deed ≡ ru
     × IsRun text r (faulted_with printed f)
 TellsText serves text deed v = Judges text deed (Err v)
 
--- of one text, which is the one that is told, where one is told
+-- for one text, which is the reported one, if there is one
 abbrev pub TellsOfText : (ℕ → ℕ) → Option (List ℕ) → Deed → Verdict → Type 0
 TellsOfText serves told deed v = OfOneText told (λ text. TellsText serves text deed v)
 
--- and where this is asked for
+-- and for a request
 abbrev pub Tells : (ℕ → ℕ) → Option Request → Option (List (List ℕ)) → ℕ → ℕ → Verdict → Type 0
 Tells serves asked later before now Usage = asked ≡ None
 Tells serves asked later before now Unread = CantBeRead asked before now
@@ -205,7 +206,7 @@ pub record HasGained (bytes : List ℕ) (sink : SinkChange) : Type 0 where
   pub steady : sink.faults_now ≡ sink.faults
   pub gained : Adds sink.held bytes sink.held_now
 
--- a write failed, which the sink wasn't sure of, and a proper prefix of the bytes was added
+-- a write failed of which the sink wasn't sure, and a proper prefix of the bytes was added
 pub record HasFailed (bytes : List ℕ) (sink : SinkChange) : Type 0 where
   pub cause : Rose sink.faults sink.faults_now
   pub unsure : sink.sure < length bytes

@@ -8,7 +8,7 @@ use plain_values::Sequence;
 use regent_tree::Width;
 use std::alloc::{AllocError, Global};
 
-/// What stands behind a `-`.
+/// The part after a `-`.
 fn digits_in(word: &[u8]) -> &[u8]
     ensures { result.now ≡ digits_in word.now }
 {
@@ -18,7 +18,7 @@ fn digits_in(word: &[u8]) -> &[u8]
     }
 }
 
-/// The number of a word, where it is one of 64 bits: an optional `-` and 1 to 20 digits.
+/// The number of a word, if it is one of 64 bits: an optional `-` and 1 to 20 digits.
 fn read_word(word: &str) -> Option<i64>
     ensures { IsRead word.now result }
 {
@@ -38,7 +38,7 @@ fn fits(width: Width, number: i64) -> bool
     }
 }
 
-/// The number of a word, where the width has it.
+/// The number of a word, if the width has it.
 fn number_of(width: Width, word: &str) -> Option<i64>
     ensures { IsFound width word.now result }
 {
@@ -54,7 +54,7 @@ fn number_of(width: Width, word: &str) -> Option<i64>
     }
 }
 
-/// The numbers of the words, where there is one for each width.
+/// The numbers of the words, if there is one for each width.
 pub fn numbers_of(
     alloc: Global,
     widths: &[Width],

@@ -1,4 +1,4 @@
-//! From words and a source to the plan of a run, or to what the call comes to without one.
+//! From words and a source to the plan of a run, or to a verdict without one.
 
 ghost use Rattle.std.specs.Prelude.{◌≡◌, [], Some};
 ghost use Rattle.check_rules.specs.Breaches.{breaches};
@@ -29,7 +29,7 @@ use sample_maker::sample;
 use std::alloc::Global;
 use type_check::{CheckFault, check};
 
-/// The text is no program on this line.
+/// The verdict that the text isn't a program, on this line.
 fn no_program(alloc: Global, line: u32) -> Verdict
     ensures { IsNoProgram line result }
 {
@@ -39,7 +39,7 @@ fn no_program(alloc: Global, line: u32) -> Verdict
     }
 }
 
-/// The limit that a token passes, where its fault is that.
+/// The limit that a token exceeds, if that is its fault.
 fn limit_in_token(kind: LexKind) -> Option<Limit>
     ensures { result ≡ limit_in_token kind }
 {
@@ -50,7 +50,7 @@ fn limit_in_token(kind: LexKind) -> Option<Limit>
     }
 }
 
-/// What a text comes to that has no tokens.
+/// The verdict on a text that has no tokens.
 fn token_fault(alloc: Global, kind: LexKind, line: u32) -> Verdict
     ensures { TellsFault (Lex kind line) result }
 {
@@ -72,7 +72,7 @@ fn limit_counted(what: Counted) -> Limit
     }
 }
 
-/// What a text comes to that is no program within the limits.
+/// The verdict on a text that isn't a program within the limits.
 fn read_fault(alloc: Global, fault: ReadFault) -> Verdict
     ensures { TellsFault fault result }
 {
@@ -86,7 +86,7 @@ fn read_fault(alloc: Global, fault: ReadFault) -> Verdict
     }
 }
 
-/// The program breaches the rule on this line.
+/// The verdict that the program violates the rule on this line.
 fn broken_rule(alloc: Global, rule: u8, line: u32) -> Verdict
     ensures { IsRefused rule line result }
 {
@@ -96,7 +96,7 @@ fn broken_rule(alloc: Global, rule: u8, line: u32) -> Verdict
     }
 }
 
-/// What an accepted program comes to.
+/// The plan or verdict for an accepted program.
 fn judge_accepted(alloc: Global, program: &Accepted, deed: &Deed<'_, '_>) -> Result<Plan, Verdict>
     requires within { WithinLimits (tree_of program.now) }
     requires sound { breaches (tree_of program.now) ≡ [] }
@@ -109,7 +109,7 @@ fn judge_accepted(alloc: Global, program: &Accepted, deed: &Deed<'_, '_>) -> Res
     }
 }
 
-/// What a program comes to.
+/// The plan or verdict for a program.
 fn judge_program(alloc: Global, program: Program, deed: &Deed<'_, '_>) -> Result<Plan, Verdict>
     requires within { WithinLimits (tree_of program) }
     requires written { AreWrittenTasks (tree_of program) }
@@ -122,7 +122,7 @@ fn judge_program(alloc: Global, program: Program, deed: &Deed<'_, '_>) -> Result
     }
 }
 
-/// What a text comes to.
+/// The plan or verdict for a text.
 fn judge_text(alloc: Global, text: &[u8], deed: &Deed<'_, '_>) -> Result<Plan, Verdict>
     ensures { Judges text.now (deed_given deed.now) result }
 {
@@ -132,7 +132,7 @@ fn judge_text(alloc: Global, text: &[u8], deed: &Deed<'_, '_>) -> Result<Plan, V
     }
 }
 
-/// What the text of a file comes to.
+/// The plan or verdict for the text of a file.
 fn judge_file<S: Source>(
     alloc: Global,
     file: &str,
@@ -154,7 +154,7 @@ fn judge_file<S: Source>(
     }
 }
 
-/// What the sample of so many colours comes to.
+/// The plan or verdict for the sample with a number of colours.
 fn judge_sample(alloc: Global, colours: u32, deed: &Deed<'_, '_>) -> Result<Plan, Verdict>
     ensures { Judges (sample_text colours) (deed_given deed.now) result }
 {
@@ -164,7 +164,7 @@ fn judge_sample(alloc: Global, colours: u32, deed: &Deed<'_, '_>) -> Result<Plan
     }
 }
 
-/// What comes of what is asked for.
+/// The plan or verdict for a request.
 fn judge_request<S: Source>(
     alloc: Global,
     asked: &Request<'_, '_>,
@@ -181,7 +181,7 @@ fn judge_request<S: Source>(
     }
 }
 
-/// What the words and the source come to.
+/// The plan or verdict for the words and the source.
 pub fn judge<S: Source>(alloc: Global, words: &[String], source: &mut S) -> Result<Plan, Verdict>
     ensures untouched { AsksNoFile (request (texts words.now)) → source.new ≡ source.old }
     ensures said { Says (request (texts words.now)) (S.later source.old) (S.faults source.old) (S.faults source.new) result }

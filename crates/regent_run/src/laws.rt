@@ -2,17 +2,17 @@
 
 ghost use Rattle.regent_run.specs.Programs.{AcceptedTextsAreRun, ComesToOneStatus, RunsComeToAnEnd};
 
-/// A text, with what is to be done with it, comes to one status at most.
+/// A text has at most one status for each deed.
 pub fn texts_have_one_status()
     ensures { ComesToOneStatus }
 {}
 
-/// Where a text is an accepted program, and the words are the numbers that it takes, its run comes to 0 or to 1.
+/// If a text is an accepted program, and the words are its arguments, its run results in 0 or 1.
 pub fn runs_come_to_an_end()
     ensures { RunsComeToAnEnd }
 {}
 
-/// Each accepted text that is run comes to 0 or to 1, or to 9 where the words aren't the numbers that it takes.
+/// Each accepted text that is run results in 0 or 1, or in 9 if the words aren't its arguments.
 pub fn accepted_texts_are_run()
     ensures { AcceptedTextsAreRun }
 {}

@@ -31,15 +31,17 @@ use std::alloc::Global;
 use std::sync::Wait;
 use std::thread::Threads;
 
-/// Does what the words say, and gives the status. Programs are run by as many workers as the words name, 4 where they
-/// name none, in threads of the runtime and through the gate; with 0 workers they are run in order.
+/// Executes the command in the words, and returns the status. Programs are run by as many workers
+/// as the words name, by default 4, in threads of the runtime and through the gate; with 0 workers
+/// they are run in order.
 ///
-/// The words are those that `command_words` takes. The text is that which the source leaves when it is begun by the
-/// file's name, or the sample of so many colours. The statuses: 0 the program finished
-/// or is accepted, 1 it faulted, 2 the words are refused, 3 the text can't be read, 4 a write failed, 5 the text is
-/// no program, 6 the program breaches a rule, 7 memory ran out, 8 the text passes a limit, 9 the numbers aren't
-/// those that the program takes. What is printed, or `accepted`, goes to `out`, and then the trace that is asked for
-/// and the line of a fault, or one line about an error, to `err`.
+/// The words are those that `command_words` takes. The text is that which the source leaves when it
+/// is begun by the file's name, or the sample with a number of colours. The statuses: 0 the program
+/// finished or is accepted, 1 it faulted, 2 the words are refused, 3 the text can't be read, 4 a
+/// write failed, 5 the text isn't a program, 6 the program violates a rule, 7 memory ran out, 8 the
+/// text exceeds a limit, 9 the words aren't the program's arguments. The printed text, or
+/// `accepted`, goes to `out`, and then the trace, if it is asked for, and the line of a fault, or
+/// one line about an error, to `err`.
 pub fn regent_run<S: Source, K: Sink, E: Sink, G: Gate, R: Threads + Wait + Sync>(
     rt: &R,
     alloc: Global,
@@ -49,11 +51,11 @@ pub fn regent_run<S: Source, K: Sink, E: Sink, G: Gate, R: Threads + Wait + Sync
     err: &mut E,
     gate: &G,
 ) -> u8
-    // How the call ends, what it writes and what it reads: clause by clause in `IsAnswered`.
+    // How the call ends, and its input and output: clause by clause in `IsAnswered`.
     ensures answers { IsAnswered (call_of (texts words.now.items) all_serve
         (source_change S.Source source.old source.new)
         (sink_change K.Sink out.old out.new) (sink_change E.Sink err.old err.new)) result }
-    // Where the words are refused, or ask for a sample, the source stays as it is.
+    // If the words are refused, or ask for a sample, the source is unchanged.
     ensures untouched { AsksNoFile (request (texts words.now.items)) → source.new ≡ source.old }
 {
     let verdict = with_workers(rt, alloc, words.as_slice(), source, gate);

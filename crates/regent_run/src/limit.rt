@@ -1,9 +1,9 @@
-//! The limits of a text, and the lines that tell that one is passed.
+//! The limits of a text, and the lines that report an excess.
 
 ghost use Rattle.std.specs.Prelude.{◌≡◌};
 ghost use Rattle.regent_run.specs.Texts.{limit_message};
 
-/// What a text has a limited number of, or what is of a limited size.
+/// The limits of a text, each on a number or a size.
 #[derive(Clone, Copy, Debug, PartialEq, Eq)]
 pub enum Limit {
     /// The bytes of the text.

@@ -1,4 +1,4 @@
-//! The plan of a run: an accepted program is compiled, with the numbers that the words are.
+//! The plan of a run: an accepted program is compiled, with its arguments.
 
 ghost use Rattle.std.specs.Prelude.{◌≡◌, ℤ, [], IfOk, List};
 ghost use Rattle.check_rules.specs.Breaches.{breaches};
@@ -18,19 +18,19 @@ use plain_values::{Sequence, Shared};
 use std::alloc::{AllocError, Global};
 use task_code::Job;
 
-/// A run that is to be made.
+/// A run to be made.
 #[derive(Drop)]
 pub struct Plan {
     pub job: Job,
-    /// How many workers are asked for.
+    /// The requested number of workers.
     pub workers: u64,
-    /// Whether the dump is to be written behind what the program prints.
+    /// Whether the dump is to be written after the printed text.
     pub dumps: bool,
     /// Whether the trace is to be written.
     pub traces: bool,
 }
 
-/// The program's code, with these numbers and turns.
+/// The program's code, with these arguments and turns.
 fn job_of(
     alloc: Global,
     program: &Accepted,
@@ -47,7 +47,7 @@ fn job_of(
     })
 }
 
-/// The plan for an accepted program that is to be run, where the words are the numbers that it takes.
+/// The plan for an accepted program that is to be run, if the words are its arguments.
 pub fn judge_run(alloc: Global, program: &Accepted, asked: &Run<'_>) -> Result<Plan, Verdict>
     requires within { WithinLimits (tree_of program.now) }
     requires sound { breaches (tree_of program.now) ≡ [] }

@@ -1,4 +1,4 @@
-//! The program: from the words as they were had to a status.
+//! The program: from the words of the operating system to a status.
 
 ghost use Rattle.std.specs.Prelude.{◌≡◌, ◌↔◌, ◌⊎◌, IfErr, IfOk, IsErr};
 ghost use Rattle.std.specs.IoError.{error_kind};
@@ -18,7 +18,7 @@ use std::rt::Files;
 use std::sync::Wait;
 use std::thread::Threads;
 
-/// The status where the words can't be had: 2 where one isn't text, and else memory ran out.
+/// The status if the words aren't available: 2 if one isn't text, else out of memory.
 fn wordless_status(kind: ErrorKind) -> u8
     ensures not_text { (result ≡ 2) ↔ (kind ≡ ErrorKind.InvalidData) }
     ensures either { (result ≡ 2) ⊎ (result ≡ 7) }
@@ -29,7 +29,7 @@ fn wordless_status(kind: ErrorKind) -> u8
     }
 }
 
-/// Does what the words say, where they could be had, and gives the status.
+/// Executes the command in the words, if they are available, and returns the status.
 pub fn regent_main<S: Source, K: Sink, E: Sink, G: Gate, R: Threads + Wait + Sync>(
     rt: &R,
     alloc: Global,
@@ -39,14 +39,14 @@ pub fn regent_main<S: Source, K: Sink, E: Sink, G: Gate, R: Threads + Wait + Syn
     err: &mut E,
     gate: &G,
 ) -> u8
-    // Where they couldn't, 2 says that one isn't text, and 7 that memory ran out. Nothing is begun, read
-    // or written.
+    // If they aren't, 2 means that one isn't text, and 7 that memory ran out. Nothing is begun,
+    // read or written.
     ensures not_text { IfErr words (λ error. (result ≡ 2) ↔ (error_kind error ≡ ErrorKind.InvalidData)) }
     ensures no_memory { IfErr words (λ _. (result ≡ 2) ⊎ (result ≡ 7)) }
     ensures unread { IsErr words → source.new ≡ source.old }
     ensures unprinted { IsErr words → out.new ≡ out.old }
     ensures untold { IsErr words → err.new ≡ err.old }
-    // Else the call with these words.
+    // Otherwise it is the call with these words.
     ensures answers { IfOk words (λ given. IsAnswered (call_of (texts given.items) all_serve
         (source_change S.Source source.old source.new)
         (sink_change K.Sink out.old out.new) (sink_change E.Sink err.old err.new)) result) }

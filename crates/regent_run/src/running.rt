@@ -1,4 +1,4 @@
-//! Runs that are planned, by workers or in order, and what they come to.
+//! Planned runs, by workers or in order, and the verdicts on them.
 
 ghost use Rattle.std.specs.Prelude.{◌≡◌, ◌<◌, ◌≤◌, ◌↔◌, ◌++◌, ℕ, IfOk, List, Some, true};
 ghost use Rattle.code_laws.specs.AcceptedPrograms.{IsEnded};
@@ -25,7 +25,7 @@ use std::sync::Wait;
 use std::thread::Threads;
 use task_code::Code;
 
-/// The dump of the roots at the end of a run, where it is asked for.
+/// The dump of the roots at the end of a run, if it is asked for.
 fn dump_by(
     alloc: Global,
     dumps: bool,
@@ -43,7 +43,7 @@ fn dump_by(
     }
 }
 
-/// The trace of a run, where it is asked for.
+/// The trace of a run, if it is asked for.
 fn trace_by(alloc: Global, traces: bool, ran: &Ran) -> Result<Vec<u8>, AllocError>
     ensures { IfOk result (λ trace. trace.items ≡ trace_by traces ran.now) }
 {
@@ -63,7 +63,7 @@ fn fault_message(alloc: Global, fault: &Fault, trace: Vec<u8>) -> Result<Vec<u8>
     Ok(message)
 }
 
-/// What a program comes to that printed this and faulted.
+/// The verdict on a program that printed this and faulted.
 fn faulted(
     alloc: Global,
     text: &Sequence<u8>,
@@ -79,7 +79,7 @@ fn faulted(
     })
 }
 
-/// What a program comes to that printed this and ended, with this dump.
+/// The verdict on a program that printed this and finished, with this dump.
 fn finished(text: &Sequence<u8>, dump: &[u8], trace: Vec<u8>) -> Result<Verdict, AllocError>
     ensures { IfOk result (λ v. (roots : List RootImage) →
         IsOfOutcome (finished_with text.now roots) dump.now trace.items v) }
@@ -89,7 +89,7 @@ fn finished(text: &Sequence<u8>, dump: &[u8], trace: Vec<u8>) -> Result<Verdict,
     Ok(Verdict::Finished { text, trace })
 }
 
-/// What a program comes to whose run has this outcome, this dump and this trace.
+/// The verdict on a program whose run has this outcome, this dump and this trace.
 fn ended(
     alloc: Global,
     outcome: &Outcome,
@@ -106,7 +106,7 @@ fn ended(
     }
 }
 
-/// What a run comes to that was planned and is done.
+/// The verdict on a planned run that is done.
 fn settled(alloc: Global, plan: &Plan, ran: &Ran) -> Result<Verdict, AllocError>
     requires sound { IsSound plan.now }
     requires outcome { outcome_of ran.now ≡ Some (order_run plan.now.job) }
@@ -122,7 +122,7 @@ fn settled(alloc: Global, plan: &Plan, ran: &Ran) -> Result<Verdict, AllocError>
     ended(alloc, outcome, dump.as_slice(), trace)
 }
 
-/// As many seats as workers are asked for, but 64 at most.
+/// As many seats as requested workers, but at most 64.
 fn seats_for(workers: u64) -> u16
     ensures few { workers < 64 → result ≡ workers }
     ensures most { 64 ≤ workers → result ≡ 64 }
@@ -135,7 +135,7 @@ fn seats_for(workers: u64) -> u16
     }
 }
 
-/// Makes a planned run by as many workers as are asked for, but 64 at most.
+/// Makes a planned run by as many workers as requested, but at most 64.
 pub fn run_by_workers<G: Gate, R: Threads + Wait + Sync>(
     rt: &R,
     alloc: Global,
@@ -149,7 +149,7 @@ pub fn run_by_workers<G: Gate, R: Threads + Wait + Sync>(
     settled(alloc, plan, &ran)
 }
 
-/// Makes a planned run in order, whatever number of workers is asked for.
+/// Makes a planned run in order, whatever number of workers is requested.
 pub fn run_alone(alloc: Global, plan: &Plan) -> Result<Verdict, AllocError>
     requires { IsSound plan.now }
     ensures { IfOk result (TellsPlan none_serve plan.now) }

@@ -1,4 +1,4 @@
-//! From words and a source to a verdict: what they come to without a run, or what the planned run comes to.
+//! From words and a source to a verdict: without a run, or that of the planned run.
 
 ghost use Rattle.std.specs.Prelude.{◌≡◌, Err};
 ghost use Rattle.command_words.specs.Given.{texts};
@@ -17,7 +17,7 @@ use std::alloc::Global;
 use std::sync::Wait;
 use std::thread::Threads;
 
-/// What the words and the source come to, where workers serve.
+/// The verdict for the words and the source, with workers.
 pub fn with_workers<S: Source, G: Gate, R: Threads + Wait + Sync>(
     rt: &R,
     alloc: Global,
@@ -40,7 +40,7 @@ pub fn with_workers<S: Source, G: Gate, R: Threads + Wait + Sync>(
     }
 }
 
-/// What they come to, where nobody serves.
+/// The same without workers.
 pub fn alone<S: Source>(alloc: Global, words: &[String], source: &mut S) -> Verdict
     ensures untouched { AsksNoFile (request (texts words.now)) → source.new ≡ source.old }
     ensures told { Tells none_serve (request (texts words.now)) (S.later source.old)

@@ -1,4 +1,4 @@
-//! What a call comes to, and the one place where it is written.
+//! The verdict of a call, and the one place where it is written.
 
 ghost use Rattle.std.specs.Prelude.{◌≡◌};
 ghost use Rattle.regent_run.specs.Calls.{sink_change};
@@ -9,7 +9,7 @@ use plain_values::Sequence;
 use run_io::{Sink, put_all};
 use std::alloc::AllocError;
 
-/// What a call comes to before it writes anything.
+/// The verdict of a call, before it writes anything.
 #[derive(Drop)]
 pub enum Verdict {
     /// The words are refused.
@@ -17,31 +17,31 @@ pub enum Verdict {
     /// The text can't be read.
     Unread,
     NoMemory,
-    /// The text is no program; the message says on which line.
+    /// The text isn't a program; the message says on which line.
     NoProgram {
         message: String,
     },
-    /// The text passes a limit.
+    /// The text exceeds a limit.
     PastLimit(Limit),
-    /// The program breaches a rule; the message says which, and on which line.
+    /// The program violates a rule; the message says which, and on which line.
     Refused {
         message: String,
     },
-    /// The words aren't the numbers that the program takes.
+    /// The words aren't the program's arguments.
     OtherInputs,
-    /// The program has printed this text, and behind it stands the dump that was asked for. The trace is there where
-    /// it was asked for.
+    /// The printed text of the program, followed by the dump if it was asked for. The trace is
+    /// there if it was asked for.
     Finished {
         text: Sequence<u8>,
         trace: Vec<u8>,
     },
-    /// The program has printed this text and faulted; the message has the trace that was asked for, and says
-    /// which fault it is, and on which line.
+    /// The program has printed this text and faulted; the message has the trace, if it was asked
+    /// for, and says which fault it is, and on which line.
     Faulted {
         text: Sequence<u8>,
         message: Vec<u8>,
     },
-    /// The program is accepted, and that is all that was asked.
+    /// The program is accepted, and no run was asked for.
     Accepted,
 }
 
@@ -73,7 +73,7 @@ impl Verdict {
         }
     }
 
-    /// What goes to the output.
+    /// The text for the output.
     fn out_text(&self) -> &[u8]
         ensures { result.now ≡ out_text self.now }
     {
@@ -85,7 +85,7 @@ impl Verdict {
         }
     }
 
-    /// What goes to the error output.
+    /// The text for the error output.
     fn err_text(&self) -> &[u8]
         ensures { result.now ≡ err_text self.now }
     {
@@ -103,8 +103,8 @@ impl Verdict {
         }
     }
 
-    /// Writes the output and then the error output, and gives the status: 4 where a write failed, and
-    /// then nothing more is written.
+    /// Writes the output and then the error output, and returns the status: 4 if a write failed,
+    /// and then nothing more is written.
     pub fn deliver<K: Sink, E: Sink>(&self, out: &mut K, err: &mut E) -> u8
         ensures { IsDelivered self.now result
             (sink_change K.Sink out.old out.new) (sink_change E.Sink err.old err.new) }

@@ -1,4 +1,4 @@
--- What a `FileSource` is seen as.
+-- The model of a `FileSource`.
 use Rattle.std.specs.Prelude.{ℕ, Option}
 
 -- its count of faults, and the file that it has opened

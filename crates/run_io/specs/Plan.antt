@@ -1,4 +1,4 @@
--- Faults to order.
+-- Planned faults.
 use Rattle.std.specs.Prelude.{◌≡◌, ℕ, List, Result, OnErr, OnOk, Contains}
 use Rattle.run_io.specs.Faults.{one_more}
 
@@ -12,7 +12,7 @@ pub record Plan : Type 0 where
 abbrev pub IsNextListed : Plan → Type 0
 IsNextListed plan = Contains plan.fails (one_more plan.calls)
 
--- a call was counted, and a fault exactly where it failed
+-- a call was counted, and a fault if and only if it failed
 pub record CountsCall {T E : Type 0} (before now : Plan) (result : Result T E) : Type 0 where
   pub calls : now.calls ≡ one_more before.calls
   pub ok : OnOk result (now.faults ≡ before.faults)

@@ -1,4 +1,4 @@
--- What a `StdSink` is seen as.
+-- The model of a `StdSink`.
 use Rattle.std.specs.Prelude.{ℕ}
 
 -- its count of faults, and its writer

@@ -1,4 +1,4 @@
--- What a `StdSource` is seen as.
+-- The model of a `StdSource`.
 use Rattle.std.specs.Prelude.{ℕ}
 
 -- its count of faults, and its reader

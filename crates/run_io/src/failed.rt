@@ -1,5 +1,5 @@
-//! The answer of a source or a sink to a fault.
+//! The result of a source or a sink that had a fault.
 
-/// A source or a sink had a fault, which its count of faults shows.
+/// A source or a sink had a fault, which raised its count of faults.
 #[derive(Clone, Copy, Debug, PartialEq, Eq)]
 pub struct Failed;

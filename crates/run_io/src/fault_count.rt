@@ -6,7 +6,7 @@ ghost use Rattle.run_io.specs.Faults.{one_more};
 use crate::failed::Failed;
 use std::marker::Model;
 
-/// A count of faults. At the end of 64 bits it stays there.
+/// A count of faults, which saturates at 64 bits.
 #[derive(Drop)]
 pub(crate) struct FaultCount {
     count: u64,
@@ -27,7 +27,7 @@ impl FaultCount {
         FaultCount { count: 0 }
     }
 
-    /// Counts a fault, and gives the answer to it.
+    /// Counts a fault, and returns the error for it.
     pub(crate) fn raise(&mut self) -> Failed
         ensures raised { self.new ≡ one_more self.old }
         ensures later { self.old ≤ self.new }

@@ -1,4 +1,4 @@
-//! Bytes in memory that the first begin leaves.
+//! Bytes in memory that become available with the first begin.
 
 ghost use Rattle.std.specs.Prelude.{◌≡◌, ◌<◌, ◌++◌, [], ◌∷◌, length, min, take, drop, string_bytes};
 ghost use Rattle.run_io.specs.Faults.{one_more};
@@ -7,7 +7,7 @@ ghost use Rattle.run_io.specs.Source.{next_left, after_next, with_name};
 use crate::names::Names;
 use std::marker::Model;
 
-/// Bytes of which the part from `at` on is left, and the begins so far.
+/// Bytes, of which those from `at` on are left, and the begins so far.
 #[derive(Drop)]
 pub(crate) struct Feed {
     bytes: Vec<u8>,
@@ -31,7 +31,7 @@ impl Model for Feed {
       names = names_of s.names;
     } };
 
-    // Where it has not begun, nothing is left; where it has, a begin was counted.
+    // If it has not begun, nothing is left; if it has, a begin was counted.
     ghost invariant = { λ s. record {
       within : s.at ≤ vec_len s.bytes;
       not_begun : s.begun ≡ false → s.at ≡ vec_len s.bytes;
@@ -67,7 +67,7 @@ impl Feed {
         self.names.note(name);
     }
 
-    /// Leaves what the counted begin is to leave.
+    /// Makes available what the counted begin promised.
     pub(crate) fn open(&mut self)
         requires { 0 < self.old.begins }
         ensures left { self.new.left ≡ next_left self.old.later }
@@ -79,7 +79,7 @@ impl Feed {
         self.begun = true;
     }
 
-    /// Moves as many bytes as are left and the buffer has.
+    /// Moves as many bytes as are left and the buffer can take.
     pub(crate) fn move_into(&mut self, buf: &mut [u8]) -> usize
         ensures count { result ≡ min (length buf.old) (length self.old.left) }
         ensures moved { buf.new ≡ take result self.old.left ++ drop result buf.old }

@@ -12,7 +12,7 @@ use std::rt::Files;
 
 /// A source that opens the named file when it is begun.
 ///
-/// It counts its faults, and tells nothing of what a file holds.
+/// It counts its faults, and reports nothing about the contents of a file.
 #[derive(Drop)]
 pub struct FileSource<'a, R: Files> {
     rt: &'a R,
@@ -57,7 +57,7 @@ impl<R: Files> Source for FileSource<'_, R> {
 
     ghost names = { λ _. None };
 
-    /// Opens the file of that name. Where that fails, a file that was open stays.
+    /// Opens the file of that name. If that fails, a file that was open stays.
     fn begin(&mut self, name: String) -> Result<(), Failed>
         ensures cause { HasCause self.old.faults self.new.faults result }
         ensures raised { OnErr result (self.new.faults ≡ one_more self.old.faults) }

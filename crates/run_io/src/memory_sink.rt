@@ -1,4 +1,4 @@
-//! A sink over memory with faults to order.
+//! A sink over memory with planned faults.
 
 ghost use Rattle.std.specs.Prelude.{◌≡◌, [], IfOk};
 
@@ -8,9 +8,9 @@ use crate::sink::Sink;
 use std::alloc::{AllocError, Global};
 use std::marker::Model;
 
-/// A sink over memory that fails at the listed writes, and where it can take no byte.
+/// A sink over memory that fails at the listed writes, and if it can take no byte.
 ///
-/// Writes count from 1. Its memory is taken when it is made.
+/// Writes count from 1. Its memory is allocated when it is made.
 #[derive(Drop)]
 pub struct MemorySink {
     held: Vec<u8>,
@@ -90,7 +90,7 @@ impl Sink for MemorySink {
         if n == 0 {
             return Err(self.plan.count_fault());
         }
-        // There is room: `new` took it.
+        // There is room: `new` reserved it.
         self.held.extend_from_slice(&buf[..n]).unwrap();
         Ok(n)
     }

@@ -1,4 +1,4 @@
-//! A source over memory with faults to order.
+//! A source over memory with planned faults.
 
 ghost use Rattle.std.specs.Prelude.{◌≡◌, [], ◌∷◌};
 

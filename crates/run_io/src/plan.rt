@@ -1,4 +1,4 @@
-//! Faults to order.
+//! Planned faults.
 
 ghost use Rattle.std.specs.Prelude.{◌≡◌, ◌≤◌, ◌↔◌, IsErr, IsTrue, Contains};
 ghost use Rattle.run_io.specs.Faults.{HasCause, one_more};
@@ -38,7 +38,7 @@ impl FaultPlan {
         }
     }
 
-    /// Counts a call, which fails where its number is listed.
+    /// Counts a call, which fails if its number is listed.
     pub(crate) fn call(&mut self) -> Result<(), Failed>
         ensures listed { IsErr result ↔ IsNextListed self.old }
         ensures cause { HasCause self.old.faults self.new.faults result }
@@ -52,7 +52,7 @@ impl FaultPlan {
         Ok(())
     }
 
-    /// Counts a fault that is not of the list.
+    /// Counts a fault that is not in the list.
     pub(crate) fn count_fault(&mut self) -> Failed
         ensures faults { self.new.faults ≡ one_more self.old.faults }
         ensures later { self.old.faults ≤ self.new.faults }

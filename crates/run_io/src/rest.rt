@@ -1,4 +1,4 @@
-//! What a source has left.
+//! The bytes that a source has left.
 
 ghost use Rattle.std.specs.Prelude.{◌≡◌, ◌≤◌, ◌<◌, [], IfErr, IfOk, IfSome, length};
 ghost use Rattle.run_io.specs.Source.{Moves};
@@ -8,12 +8,12 @@ use crate::failed::Failed;
 use crate::source::Source;
 use std::alloc::{AllocError, Global};
 
-/// Why the rest of a source can't be had.
+/// Why the rest of a source isn't available.
 #[derive(Debug, Drop)]
 pub enum NoRest {
     /// A read failed.
     Failed,
-    /// There is no memory.
+    /// Out of memory.
     Memory,
 }
 
@@ -39,12 +39,12 @@ impl From<AllocError> for NoRest {
     }
 }
 
-/// Reads what a source has left, up to so many bytes.
+/// Reads what a source has left, up to `most` bytes.
 #[tactic(auto, using(crate::proofs::SourceLemmas::moves_both))]
 pub fn read_rest<S: Source>(alloc: Global, source: &mut S, most: usize) -> Result<Vec<u8>, NoRest>
     ensures text { IfOk result (λ text. Moves (S.left source.old) text.items (S.left source.new)) }
     ensures bound { IfOk result (λ text. length text.items ≤ most) }
-    // Where fewer are left, they are read to the end.
+    // If fewer are left, they are read to the end.
     ensures whole { IfOk result (λ text. length text.items < most →
         IfSome (S.left source.new) (λ left. left ≡ [])) }
     ensures takes { IfErr result (λ _. TakesAtMost most (S.left source.old) (S.left source.new)) }

@@ -1,4 +1,4 @@
-//! Where bytes go.
+//! Sinks for bytes.
 
 ghost use Rattle.std.specs.Prelude.{◌≡◌, ◌≤◌, ◌<◌, ◌+◌, ℕ, List, Option, OnErr, OnOk, IfOk, IsOk, length, take};
 ghost use Rattle.run_io.specs.Faults.{HasCause};
@@ -6,20 +6,21 @@ ghost use Rattle.run_io.specs.Sink.{Adds, AddsPrefix};
 
 use crate::failed::Failed;
 
-/// A sink for bytes, which counts its faults. It tells the bytes that it holds, or it tells nothing
-/// of them, as a terminal does.
+/// A sink for bytes, which counts its faults. It reports the bytes that it holds, or nothing about
+/// them, as a terminal does.
 pub trait Sink {
-    /// How many faults it has had.
+    /// The number of faults so far.
     ghost faults: { Self → ℕ };
 
     /// The bytes that it holds.
     ghost held: { Self → Option (List ℕ) };
 
-    /// So many more bytes it is sure to take without a fault. It need not be sure of any.
+    /// The number of further bytes that it is sure to take without a fault. It need not be sure of
+    /// any.
     ghost sure: { Self → ℕ } = { λ _. 0 };
 
-    /// Takes the first bytes of the buffer, and answers how many. A sink that can take none counts
-    /// that as a fault.
+    /// Takes the first bytes of the buffer, and returns their number. A sink that can take none
+    /// counts that as a fault.
     fn write(&mut self, buf: &[u8]) -> Result<usize, Failed>
         requires { 0 < length buf.now }
         ensures cause { HasCause (faults self.old) (faults self.new) result }

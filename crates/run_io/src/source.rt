@@ -1,4 +1,4 @@
-//! Where bytes come from.
+//! Sources of bytes.
 
 ghost use Rattle.std.specs.Prelude.{◌≡◌, ◌≤◌, ◌<◌, ◌↔◌, ℕ, List, [], Option, Some, OnErr, OnOk, IfOk, IfSome, length, take, drop, option_map, string_bytes};
 ghost use Rattle.run_io.specs.Faults.{HasCause, one_more};
@@ -6,21 +6,22 @@ ghost use Rattle.run_io.specs.Source.{Moves, next_left, after_next, with_name};
 
 use crate::failed::Failed;
 
-/// A source of bytes. Reads move what the last begin left.
+/// A source of bytes. Reads move what the last begin made available.
 ///
-/// A source tells what it has left, how often it was begun and by which names, or it tells nothing
-/// of this, as a file does. Its count of faults it always tells.
+/// A source reports what it has left, how often it was begun and by which names, or nothing about
+/// this, as a file does. It always reports its count of faults.
 pub trait Source {
-    /// How many faults it has had.
+    /// The number of faults so far.
     ghost faults: { Self → ℕ };
 
     /// The bytes that are left now.
     ghost left: { Self → Option (List ℕ) };
 
-    /// The bytes that each later begin will leave. One past the end of the list leaves nothing.
+    /// The bytes that each later begin will make available. One past the end of the list makes
+    /// nothing available.
     ghost later: { Self → Option (List (List ℕ)) };
 
-    /// How often it was begun.
+    /// The number of begins.
     ghost begins: { Self → Option ℕ };
 
     /// The names of the first two begins.
@@ -37,7 +38,8 @@ pub trait Source {
         ensures err_left { OnErr result (left self.new ≡ left self.old) }
         ensures err_later { OnErr result (later self.new ≡ later self.old) };
 
-    /// Moves the first bytes of what is left into the front of the buffer, and answers how many.
+    /// Moves the first bytes of what is left into the front of the buffer, and returns their
+    /// number.
     fn read(&mut self, buf: &mut [u8]) -> Result<usize, Failed>
         requires { 0 < length buf.old }
         ensures cause { HasCause (faults self.old) (faults self.new) result }
@@ -46,15 +48,15 @@ pub trait Source {
         ensures moved { IfOk result (λ n. Moves (left self.old) (take n buf.new) (left self.new)) }
         ensures behind { IfSome (left self.old) (λ _. IfOk result (λ n. drop n buf.new ≡ drop n buf.old)) }
 
-        // Ok(0) comes exactly where nothing is left, as before the first begin.
+        // It returns Ok(0) if and only if nothing is left, as before the first begin.
         ensures end { IfSome (left self.old) (λ left. IfOk result (λ n. (n ≡ 0) ↔ (left ≡ []))) }
         ensures before_begin { begins self.old ≡ Some 0 → left self.old ≡ Some [] }
 
-        // One that fails moves nothing.
+        // A read that fails moves nothing.
         ensures err_left { OnErr result (left self.new ≡ left self.old) }
         ensures err_buffer { IfSome (left self.old) (λ _. OnErr result (buf.new ≡ buf.old)) }
 
-        // A read leaves the rest alone.
+        // A read changes nothing else.
         ensures later { later self.new ≡ later self.old }
         ensures begins { begins self.new ≡ begins self.old }
         ensures names { names self.new ≡ names self.old };

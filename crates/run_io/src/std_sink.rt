@@ -10,8 +10,8 @@ use std::marker::Model;
 
 /// A sink that flushes its writer after each write.
 ///
-/// It counts its faults, a failed flush and a write of 0 bytes among them, and tells nothing of
-/// what the writer holds.
+/// It counts its faults, a failed flush and a write of 0 bytes among them, and reports nothing
+/// about the contents of the writer.
 #[derive(Drop)]
 pub struct StdSink<W: Write> {
     writer: W,

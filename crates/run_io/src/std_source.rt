@@ -8,9 +8,9 @@ use crate::source::Source;
 use std::io::Read;
 use std::marker::Model;
 
-/// A source of what its reader gives, by whichever name it is begun.
+/// A source of its reader's bytes, by whichever name it is begun.
 ///
-/// It counts its faults, and tells nothing of what the reader holds.
+/// It counts its faults, and reports nothing about the contents of the reader.
 #[derive(Drop)]
 pub struct StdSource<R: Read> {
     reader: R,
@@ -26,7 +26,7 @@ impl<R: Read> Model for StdSource<R> {
 }
 
 impl<R: Read> StdSource<R> {
-    /// A source of what this reader gives.
+    /// A source of this reader's bytes.
     pub fn new(reader: R) -> Self
         ensures faults { result.faults ≡ 0 }
         ensures reader { result.reader ≡ reader }
@@ -53,7 +53,7 @@ impl<R: Read> Source for StdSource<R> {
 
     ghost names = { λ _. None };
 
-    /// Does nothing: the reader goes on where it stands.
+    /// Does nothing: the reader continues at its position.
     fn begin(&mut self, _name: String) -> Result<(), Failed>
         ensures ok { IsOk result }
         ensures same { self.new ≡ self.old }

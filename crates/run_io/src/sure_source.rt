@@ -22,7 +22,7 @@ impl Model for SureSource {
 }
 
 impl SureSource {
-    /// The first begin leaves the bytes, and a later one nothing.
+    /// The first begin makes the bytes available, and a later one nothing.
     pub fn new(bytes: Vec<u8>) -> Self
         ensures left { result.left ≡ [] }
         ensures later { result.later ≡ bytes.items ∷ [] }

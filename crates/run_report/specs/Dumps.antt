@@ -1,4 +1,4 @@
--- The dump of a run that finished: what the roots hold that its entry task made.
+-- The dump of a run that finished: the contents of the roots that its entry task made.
 use Rattle.std.specs.Prelude.{◌==◌, ◌&&◌, ◌+◌, ℕ, ℤ, pos, List, [], ◌∷◌, ◌++◌, Bool, true, false, not, codes, get_or, length, nat_lt}
 use Rattle.std.specs.Fmt.{decimal, signed_decimal}
 use Rattle.std.specs.List.{list_all}
@@ -25,7 +25,7 @@ abbrev pub target_text : Target → List ℕ
 target_text null_target = codes "null"
 target_text (point_target n i) = decimal n ++ codes "@" ++ decimal i
 
--- what a kept number means in a field of a kind
+-- the meaning of a kept number in a field of a kind
 abbrev pub value_text : FieldKind → ℤ → List ℕ
 value_text Int32 z = signed_decimal z
 value_text Int64 z = signed_decimal z
@@ -51,7 +51,8 @@ field_lines (field ∷ fields) [] = []
 field_lines (field ∷ fields) (numbers ∷ columns) =
     field_line field numbers ++ field_lines fields columns
 
--- `region K SPACE COUNT`: the root's place from 0, the name of its field space, how many points it has
+-- `region K SPACE COUNT`: the root's place from 0, the name of its field space, the number of its
+-- points
 abbrev pub region_line : ℕ → List ℕ → ℕ → List ℕ
 region_line place name count =
     codes "region " ++ decimal place ++ 32 ∷ name ++ 32 ∷ decimal count ++ 10 ∷ []
@@ -90,7 +91,7 @@ dump_text code outcome = roots_from 0 code.spaces (roots_of outcome.ending)
 abbrev pub has_points : ℕ → List (List ℤ) → Bool
 has_points count columns = list_all (λ numbers. length numbers == count) columns
 
--- a root is of one of the field spaces, and has of each of its fields a number for each point
+-- a root is of one of the field spaces, and has for each of its fields a number for each point
 abbrev pub is_of_space : List SpaceCode → RootImage → Bool
 is_of_space spaces root = nat_lt root.space (length spaces)
     && (length root.fields == length (space_of spaces root).fields

@@ -1,4 +1,4 @@
-//! What the roots of an entry task hold at the end.
+//! The final contents of the entry task's roots.
 
 ghost use Rattle.std.specs.Prelude.{◌≡◌, ◌++◌, IfOk, OnOk, length, true};
 ghost use Rattle.std.specs.List.{list_all};
@@ -79,8 +79,8 @@ fn push_roots(
     Ok(())
 }
 
-/// The final contents of the roots that the entry task made: a line for each root and one for each of
-/// its fields. A run that didn't finish has none. `fits_spaces` tests what is asked for.
+/// The final contents of the roots that the entry task made: a line for each root and one for each
+/// of its fields. A run that didn't finish has none. `fits_spaces` tests the precondition.
 pub fn dump_text(alloc: Global, code: &Code, outcome: &Outcome) -> Result<Vec<u8>, AllocError>
     requires { fits_spaces code.now outcome.now ≡ true }
     ensures { IfOk result (λ text. text.items ≡ dump_text code.now outcome.now) }

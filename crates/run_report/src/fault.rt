@@ -21,7 +21,7 @@ fn name_of(kind: FaultKind) -> &'static str
     }
 }
 
-/// The line that tells a fault.
+/// The line that reports a fault.
 pub fn fault_text(alloc: Global, fault: &Fault) -> Result<Vec<u8>, AllocError>
     ensures { IfOk result (λ text. text.items ≡ fault_text fault.now) }
 {

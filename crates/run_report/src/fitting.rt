@@ -40,8 +40,8 @@ fn are_of_spaces(spaces: &[SpaceCode], roots: &[RootImage]) -> bool
     true
 }
 
-/// Whether each root is of a field space of the code, and has of each of its fields a number for each
-/// point. An outcome without roots fits all code.
+/// Whether each root is of a field space of the code, and has for each of its fields a number for
+/// each point. An outcome without roots fits all code.
 pub fn fits_spaces(code: &Code, outcome: &Outcome) -> bool
     ensures { result ≡ fits_spaces code.now outcome.now }
 {

@@ -1,4 +1,4 @@
-//! The texts of a run: what the roots of its entry task hold at the end, and the line of a fault.
+//! The texts of a run: the final contents of its entry task's roots, and the line of a fault.
 //!
 //! `specs/Dumps` and `specs/FaultLines` define them. Each line ends with a line feed.
 #![tactic(auto)]

@@ -24,7 +24,7 @@ fn truth_text(truth: bool) -> &'static [u8]
     if truth { b"true" } else { b"false" }
 }
 
-/// Adds a pointer, from the number that is kept of it.
+/// Adds a pointer, given its kept number.
 fn push_pointer(text: &mut Vec<u8>, number: i64) -> Result<(), AllocError>
     ensures { OnOk result (text.new.items ≡ text.old.items ++ target_text (target_kept number)) }
 {
@@ -36,7 +36,7 @@ fn push_pointer(text: &mut Vec<u8>, number: i64) -> Result<(), AllocError>
     push_number(text, kept / POINTS)
 }
 
-/// Adds what a kept number means in a field of a kind.
+/// Adds the meaning of a kept number in a field of a kind.
 fn push_value(text: &mut Vec<u8>, kind: FieldKind, number: i64) -> Result<(), AllocError>
     ensures { OnOk result (text.new.items ≡ text.old.items ++ value_text kind number) }
 {
@@ -47,7 +47,7 @@ fn push_value(text: &mut Vec<u8>, kind: FieldKind, number: i64) -> Result<(), Al
     }
 }
 
-/// Adds the values of a field at all points, each behind a blank.
+/// Adds the values of a field at all points, each after a blank.
 pub fn push_values(text: &mut Vec<u8>, kind: FieldKind, numbers: &[i64]) -> Result<(), AllocError>
     ensures { OnOk result (text.new.items ≡ text.old.items ++ values_text kind numbers.now) }
 {

@@ -37,7 +37,7 @@ sums_text =
     ++ codes "  var t = region(ispace(int1d, 1), sum)\n"
     ++ codes "  var c = ispace(int1d, "
 
--- up to the number that neighbours are counted by
+-- up to the number that determines neighbours
 unfoldable pub setup_text : List ℕ
 setup_text =
     codes ")\n"
@@ -45,7 +45,7 @@ setup_text =
     ++ codes "  __demand(__index_launch)\n"
     ++ codes "  for k in c do setup(p[k], "
 
--- up to the number of cells that is printed
+-- up to the printed number of cells
 unfoldable pub rounds_text : List ℕ
 rounds_text =
     codes ") end\n"

@@ -1,4 +1,4 @@
-//! The sample program: a text that is made for a number of colours.
+//! The sample program: a text that is generated for a number of colours.
 #![tactic(auto)]
 
 #[cfg(test)]

@@ -1,4 +1,5 @@
-//! Each length by hand: that of the lines that don't change, and the digits of the four numbers.
+//! Each length is computed manually: that of the lines that don't change, plus the digits of the
+//! four numbers.
 
 use crate::sample;
 use std::alloc::AllocError;

@@ -37,7 +37,7 @@ task main()
   var r = region(ispace(int1d, "
 }
 
-/// What stands before the number of colours.
+/// The part before the number of colours.
 #[tactic(auto, unfolding(crate::specs::Texts::sums_text))]
 fn sums_text() -> &'static str
     ensures { result.now ≡ sums_text }
@@ -47,7 +47,7 @@ fn sums_text() -> &'static str
   var c = ispace(int1d, "
 }
 
-/// What stands before the number that neighbours are counted by.
+/// The part before the number that determines neighbours.
 #[tactic(auto, unfolding(crate::specs::Texts::setup_text))]
 fn setup_text() -> &'static str
     ensures { result.now ≡ setup_text }
@@ -58,7 +58,7 @@ fn setup_text() -> &'static str
   for k in c do setup(p[k], "
 }
 
-/// What stands before the number of cells that is printed.
+/// The part before the printed number of cells.
 #[tactic(auto, unfolding(crate::specs::Texts::rounds_text))]
 fn rounds_text() -> &'static str
     ensures { result.now ≡ rounds_text }
@@ -76,7 +76,7 @@ fn rounds_text() -> &'static str
   regentlib.c.printf(\"%lld cells, total %lld\\n\", "
 }
 
-/// What stands behind it.
+/// The part after it.
 #[tactic(auto, unfolding(crate::specs::Texts::end_text))]
 fn end_text() -> &'static str
     ensures { result.now ≡ end_text }
@@ -94,7 +94,7 @@ fn push_number<I: Integer>(text: &mut String, number: I) -> Result<(), AllocErro
     text.push_str(Buffer::new().format(number))
 }
 
-/// Adds what stands before the loop that sets the cells up.
+/// Adds the text before the loop that sets the cells up.
 fn push_front(text: &mut String, cells: u64, colours: u32) -> Result<(), AllocError>
     ensures { OnOk result (text.new.bytes.items ≡ text.old.bytes.items ++ front_text cells colours) }
 {
@@ -104,7 +104,7 @@ fn push_front(text: &mut String, cells: u64, colours: u32) -> Result<(), AllocEr
     push_number(text, colours)
 }
 
-/// Adds all from there.
+/// Adds the text from there on.
 fn push_rest(text: &mut String, cells: u64) -> Result<(), AllocError>
     ensures { OnOk result (text.new.bytes.items ≡ text.old.bytes.items ++ rest_text cells) }
 {
@@ -115,9 +115,10 @@ fn push_rest(text: &mut String, cells: u64) -> Result<(), AllocError>
     text.push_str(end_text())
 }
 
-/// The sample program with this many colours, and 4,096 cells for each. It makes a ring of cells, in which each
-/// cell has a neighbour, adds each neighbour's value four times over to that of each cell, block by block, and
-/// prints how many cells there are and the sum of all values. Its loops are demanded as index launches.
+/// The sample program with this many colours, and 4,096 cells for each. It makes a ring of cells,
+/// in which each cell has a neighbour, adds each neighbour's value four times over to that of each
+/// cell, block by block, and prints the number of cells and the sum of all values. Its loops are
+/// demanded as index launches.
 pub fn sample(alloc: Global, colours: u32) -> Result<String, AllocError>
     ensures { IfOk result (λ text. text.bytes.items ≡ sample_text colours) }
 {

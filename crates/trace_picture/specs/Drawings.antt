@@ -15,7 +15,7 @@ abbrev pub joined : List (List ℕ) → List ℕ
 joined [] = []
 joined (piece ∷ pieces) = piece ++ joined pieces
 
--- what a title begins with
+-- the start of a title
 unfoldable pub title_text : ℕ → ℕ → List ℕ
 title_text op seat = joined (codes "<title>operation " ∷ decimal op ∷ codes " by seat " ∷ decimal seat ∷ codes ": " ∷ [])
 
@@ -27,13 +27,13 @@ IsAt place (Given at) = at ≡ place
 IsAt place (TakenBack at) = at ≡ place
 IsAt place Unended = ⊥
 
--- the segment ends in a journal of so many entries, or not at all
+-- the segment ends in a journal with this many entries, or not at all
 abbrev pub IsWithin : ℕ → Ending → Type 0
 IsWithin entries (Given place) = place < entries
 IsWithin entries (TakenBack place) = place < entries
 IsWithin entries Unended = Unit {0}
 
--- the place behind a segment; one that doesn't end goes on to the end of the journal
+-- the place after a segment; one that doesn't end reaches the end of the journal
 abbrev pub place_behind : ℕ → Ending → ℕ
 place_behind entries (Given place) = place + 1
 place_behind entries (TakenBack place) = place + 1
@@ -56,18 +56,18 @@ frame_text seat begin width = joined (
     codes "<svg class=\"box\" x=\"" ∷ decimal begin ∷ codes "em\" y=\"" ∷ decimal (3 * seat)
     ∷ codes "em\" width=\"" ∷ decimal width ∷ codes "em\" height=\"2em\">" ∷ [])
 
--- what is seen of it: its colour, and the operation's number
+-- its visible part: its colour, and the operation's number
 unfoldable pub face_text : ℕ → Ending → List ℕ
 face_text op ending = joined (
     codes "<rect class=\"" ∷ ending_class ending
     ∷ codes "\" width=\"100%\" height=\"100%\"/><text x=\"50%\" y=\"50%\">" ∷ decimal op ∷ codes "</text></svg>\n" ∷ [])
 
--- from which line to which it goes
+-- the lines on which it begins and ends
 abbrev pub span_text : ℕ → Ending → List ℕ
 span_text begin ending = joined (
     codes "claim on line " ∷ decimal (begin + 1) ∷ ending_words ending ∷ codes "</title>" ∷ [])
 
--- a box goes from its claim to its end; its title tells what it is, on which lines
+-- a box goes from its claim to its end; its title says what it is, on which lines
 abbrev pub box_text : ℕ → Box → List ℕ
 box_text entries b = joined (
     frame_text b.seat b.begin (place_behind entries b.ending - b.begin) ∷ title_text b.op b.seat
@@ -89,7 +89,7 @@ shape_text m = joined (
     codes "<use href=\"#" ∷ mark_word m.kind ∷ codes "\" x=\"" ∷ decimal m.place
     ∷ codes "em\" y=\"" ∷ decimal (3 * m.seat) ∷ codes "em\">" ∷ [])
 
--- what it tells, and on which line
+-- its meaning, and its line
 unfoldable pub note_text : MarkKind → ℕ → List ℕ
 note_text kind place = joined (mark_word kind ∷ codes " on line " ∷ decimal (place + 1) ∷ codes "</title></use>\n" ∷ [])
 
@@ -102,7 +102,7 @@ marks_text (m ∷ ms) = mark_text m ++ marks_text ms
 
 -- ---- the line of the number in progress
 
--- one place to the right, behind 2 em up or down where the number changes
+-- one place to the right, after 2 em up or down if the number changes
 abbrev pub step_text : Step → List ℕ
 step_text rises = codes "v-20h10"
 step_text stays = codes "h10"
@@ -112,11 +112,11 @@ abbrev pub steps_text : List Step → List ℕ
 steps_text [] = []
 steps_text (s ∷ ss) = step_text s ++ steps_text ss
 
--- where the number 0 stands: below the lanes, and one number for each lane
+-- the position of the number 0: below the lanes, and one number for each lane
 abbrev pub zero_line : ℕ → ℕ
 zero_line lanes = 5 * lanes + 1
 
--- what the line begins with
+-- the start of the line
 unfoldable pub start_text : ℕ → List ℕ
 start_text lanes = joined (
     codes "<svg y=\"" ∷ decimal (zero_line lanes) ∷ codes "em\"><path class=\"line\" d=\"M0 0" ∷ [])
@@ -124,7 +124,7 @@ start_text lanes = joined (
 abbrev pub line_text : ℕ → List Step → List ℕ
 line_text lanes steps = joined (start_text lanes ∷ steps_text steps ∷ codes "\"/></svg>\n" ∷ [])
 
--- ---- lanes, and what stands behind them
+-- ---- lanes, and the background
 
 -- the lane of a seat
 unfoldable pub lane_text : ℕ → ℕ → List ℕ
@@ -146,7 +146,7 @@ lanes_text entries lanes zero = []
 lanes_text entries lanes (suc seat) = lanes_text entries lanes seat
     ++ lane_text entries seat ++ level_text entries lanes (seat + 1)
 
--- the line behind each tenth entry
+-- the line after each tenth entry
 unfoldable pub tick_text : ℕ → ℕ → List ℕ
 tick_text lanes tens = joined (
     codes "<svg x=\"" ∷ decimal (10 * tens) ∷ codes "em\"><line class=\"grid\" y1=\"-1em\" y2=\""
@@ -159,20 +159,20 @@ ticks_text lanes (suc tens) = ticks_text lanes tens ++ tick_text lanes (tens + 1
 
 -- ---- the whole
 
--- wide enough for the legend; it stays at the end of 64 bits
+-- wide enough for the legend; it saturates at 64 bits
 abbrev pub width_of : ℕ → ℕ
 width_of entries = min (max entries 56 + 10) (2 ^ 64 - 1)
 
 abbrev pub height_of : ℕ → ℕ
 height_of lanes = 5 * lanes + 9
 
--- what a picture of this width and height begins with
+-- the start of a picture of this width and height
 unfoldable pub head_text : ℕ → ℕ → List ℕ
 head_text width height = joined (
     codes "<svg xmlns=\"http://www.w3.org/2000/svg\" width=\"" ∷ decimal width ∷ codes "0\" height=\"" ∷ decimal height
     ∷ codes "0\" viewBox=\"0 0 " ∷ decimal width ∷ codes "0 " ∷ decimal height ∷ codes "0\" font-size=\"10\">\n" ∷ [])
 
--- what stands behind boxes and line
+-- the background of boxes and line
 abbrev pub ground_text : ℕ → ℕ → List ℕ
 ground_text entries lanes = joined (
     light_text ∷ dark_text ∷ legend_text ∷ lanes_text entries lanes lanes ∷ level_text entries lanes 0

@@ -1,4 +1,4 @@
--- What holds of the picture of every journal.
+-- Properties of the picture of every journal.
 use Rattle.std.specs.Prelude.{◌≡◌, ◌+◌, ◌<◌, ◌⊎◌, All, ℕ, List, [], ◌∷◌, Bool, true, false, Option, Some, None, cond, count_by, map, slice_get, take, ◌==◌}
 use Rattle.run_journal.specs.declared.entry.Entry.{Entry}
 use Rattle.run_journal.specs.declared.entry.StepKind.{StepKind}
@@ -29,14 +29,14 @@ is_ending Copy = false
 is_ending Give = true
 is_ending Back = true
 
--- one where an entry of such a kind stands, else none
+-- one if there is an entry of such a kind, else none
 abbrev pub count_at : (StepKind → Bool) → Option Entry → ℕ
 count_at P None = 0
 count_at P (Some e) = cond (P e.kind) 1 0
 
 -- ---- boxes
 
--- so many boxes begin at a place
+-- the number of boxes that begin at a place
 abbrev pub begins_at : ℕ → List Box → ℕ
 begins_at place bs = count_by (λ b. b.begin == place) bs
 
@@ -61,11 +61,11 @@ BoxesAreInOrder = (es : List Entry) → map (λ b. b.begin) (boxes_from 0 es) �
 abbrev pub entry_of : StepKind → Box → Entry
 entry_of kind b = record { kind = kind; op = record { 0 = b.op }; seat = b.seat }
 
--- such a give or back stands at a place
+-- such a give or back is at a place
 abbrev pub IsEndAt : List Entry → Box → ℕ → Type 0
 IsEndAt es b place = (slice_get es place ≡ Some (entry_of Give b)) ⊎ (slice_get es place ≡ Some (entry_of Back b))
 
--- an entry of this kind stands at a place behind the claim, and no give or back between
+-- an entry of this kind is at a place after the claim, with no give or back in between
 pub record IsFirstEnd (es : List Entry) (b : Box) (kind : StepKind) (place : ℕ) : Type 0 where
   pub behind : b.begin < place
   pub there : slice_get es place ≡ Some (entry_of kind b)
@@ -76,7 +76,8 @@ EndsSo es b (Given place) = IsFirstEnd es b Give place
 EndsSo es b (TakenBack place) = IsFirstEnd es b Back place
 EndsSo es b Unended = (n : ℕ) → b.begin < n → ¬ IsEndAt es b n
 
--- a box begins at a claim of its operation by its seat, and ends at the first give or back of these behind it
+-- a box begins at a claim of its operation by its seat, and ends at the first give or back of these
+-- after it
 pub record IsBoxOf (es : List Entry) (b : Box) : Type 0 where
   pub claim : slice_get es b.begin ≡ Some (entry_of Claim b)
   pub ending : EndsSo es b b.ending
@@ -89,7 +90,7 @@ BoxesTellSegments = (es : List Entry) → All (IsBoxOf es) (boxes_from 0 es)
 abbrev pub stands_at : ℕ → List Mark → ℕ
 stands_at place ms = count_by (λ m. m.place == place) ms
 
--- at the place of a copy or a back one mark stands, and none at any other
+-- at the place of a copy or a back there is one mark, and none at any other
 abbrev pub EachMarkedEntryHasOneMark : Type 0
 EachMarkedEntryHasOneMark = (es : List Entry) (place : ℕ) →
     stands_at place (marks_from 0 es) ≡ count_at is_marked (slice_get es place)
@@ -98,7 +99,7 @@ abbrev pub kind_marked : MarkKind → StepKind
 kind_marked mark.Copy = Copy
 kind_marked mark.Back = Back
 
--- a mark tells the entry at its place
+-- a mark has the entry at its place
 abbrev pub IsMarkOf : List Entry → Mark → Type 0
 IsMarkOf es m = slice_get es m.place ≡ Some (record { kind = kind_marked m.kind; op = record { 0 = m.op }; seat = m.seat })
 

@@ -1,5 +1,6 @@
--- The picture of a journal: a lane for each seat with a box for each segment, marks for copies and for claims that are taken
--- back, and a line that tells how many operations are in progress. Time is the place in the journal, from 0.
+-- The picture of a journal: a lane for each seat with a box for each segment, marks for copies and
+-- for claims that are taken back, and a line that shows the number of operations in progress. Time
+-- is the place in the journal, from 0.
 use Rattle.std.specs.Prelude.{ℕ, ◌+◌, List, [], ◌∷◌, Bool, Option, Some, None, length, max, ◌==◌, ◌&&◌, if◌then◌else◌}
 use Rattle.run_journal.specs.declared.entry.Entry.{Entry}
 use Rattle.run_journal.specs.declared.entry.StepKind.{StepKind}
@@ -36,12 +37,13 @@ abbrev pub or_else : Option Ending → Ending → Ending
 or_else (Some ending) later = ending
 or_else None later = later
 
--- how the segment of a claim ends: by the first give or back of its operation and seat among the entries from a place on
+-- the ending of a claim's segment: the first give or back of its operation and seat among the
+-- entries from a place on
 abbrev pub ending_of : Entry → ℕ → List Entry → Ending
 ending_of claim place [] = Unended
 ending_of claim place (e ∷ es) = or_else (ended_by claim place e) (ending_of claim (place + 1) es)
 
--- a claim has a segment, which ends so
+-- a claim has a segment, with this ending
 abbrev pub segment_ending : StepKind → Ending → Option Ending
 segment_ending Claim ending = Some ending
 segment_ending Copy ending = None
@@ -83,7 +85,7 @@ marks_from place (e ∷ es) = with_mark (mark_kind e.kind) place e (marks_from (
 
 -- ---- the number of operations in progress
 
--- what an entry does to it
+-- the effect of an entry on it
 pub data Step : Type 0 where
   rises : Step
   stays : Step

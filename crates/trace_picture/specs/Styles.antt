@@ -1,7 +1,7 @@
 -- The parts of a picture's text that are the same in each: colours for light and dark pages, the shapes of marks, and the legend.
 use Rattle.std.specs.Prelude.{ℕ, List, ◌++◌, codes}
 
--- the colours on a light page, and how texts are set
+-- the colours on a light page, and the style of texts
 unfoldable pub light_text : List ℕ
 light_text =
     codes "<style>\n"
@@ -38,7 +38,8 @@ dark_text =
     ++ codes "}\n"
     ++ codes "</style>\n"
 
--- the shapes of marks, the page and the legend; the last line opens the element in which the picture itself stands
+-- the shapes of marks, the page and the legend; the last line opens the element of the picture
+-- itself
 unfoldable pub legend_text : List ℕ
 legend_text =
     codes "<defs>\n"

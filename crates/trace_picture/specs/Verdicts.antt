@@ -1,4 +1,4 @@
--- What a trace comes to before anything is written.
+-- The verdict on a trace, before anything is written.
 use Rattle.std.specs.Prelude.{◌≡◌, ℕ, List, IfSome, string_bytes}
 use Rattle.run_io.specs.Faults.{Rose}
 use Rattle.run_journal.specs.declared.entry.Entry.{Entry}
@@ -8,7 +8,7 @@ use Rattle.trace_picture.specs.Drawings.{picture_text}
 use Rattle.trace_picture.specs.Pictures.{picture_of}
 use Rattle.trace_picture.specs.Views.{Trace, HasBadLine, IsJournal, IsPut, IsTooLong, IsUntouched, SinkChange, bad_line_message, limit_message, memory_message, read_message}
 
--- what a verdict says of a text
+-- the meaning of a verdict on a text
 abbrev pub Judges : List ℕ → Verdict → Type 0
 Judges text (Shown picture) = (es : List Entry) × IsJournal es text × (string_bytes picture ≡ picture_text (picture_of es))
 Judges text (BadLine message) = (line : ℕ) × HasBadLine line text × (string_bytes message ≡ bad_line_message line)
@@ -16,7 +16,7 @@ Judges text TooLong = IsTooLong text
 Judges text Unread = ⊥
 Judges text NoMemory = Unit {0}
 
--- and of the text that a source has left, where it tells that
+-- the same for the text that a source has left, if it reports that
 abbrev pub Says : Trace → Verdict → Type 0
 Says trace (Shown picture) = (es : List Entry) × IfSome trace.text (IsJournal es)
     × (string_bytes picture ≡ picture_text (picture_of es))
@@ -26,7 +26,7 @@ Says trace TooLong = IfSome trace.text IsTooLong
 Says trace Unread = Rose trace.faults trace.faults_now
 Says trace NoMemory = Unit {0}
 
--- what is written of it
+-- the output that a verdict leads to
 abbrev pub IsDelivered : Verdict → SinkChange → SinkChange → ℕ → Type 0
 IsDelivered (Shown picture) out err answer = IsPut 0 (string_bytes picture) out answer × IsUntouched err
 IsDelivered (BadLine message) out err answer = IsPut 12 (string_bytes message) err answer × IsUntouched out

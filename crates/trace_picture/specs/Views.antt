@@ -1,4 +1,4 @@
--- A call that makes the picture of a trace: what it writes, and with which status.
+-- A call that makes the picture of a trace: its output, and its status.
 use Rattle.std.specs.Prelude.{◌≡◌, ◌≤◌, ◌<◌, ◌++◌, All, ℕ, List, Option, IfSome, codes, length}
 use Rattle.std.specs.Fmt.{decimal}
 use Rattle.run_io.specs.Faults.{Rose}
@@ -23,7 +23,7 @@ limit_message = codes "error: limit journal 16777216\n"
 abbrev pub bad_line_message : ℕ → List ℕ
 bad_line_message line = codes "error: journal line " ++ decimal line ++ codes "\n"
 
--- ---- what a text comes to
+-- ---- the kinds of texts
 
 -- the text is that of this journal, and isn't too long
 pub record IsJournal (es : List Entry) (text : List ℕ) : Type 0 where
@@ -39,7 +39,8 @@ pub record HasBadLine (line : ℕ) (text : List ℕ) : Type 0 where
 abbrev pub IsTooLong : List ℕ → Type 0
 IsTooLong text = 16777216 < length text
 
--- a trace: what its source has left before a call, where it tells that, and its count of faults before and after
+-- a trace: what its source has left before a call, if it reports that, and its count of faults
+-- before and after
 pub record Trace : Type 0 where
   pub text : Option (List ℕ)
   pub faults : ℕ
@@ -48,16 +49,16 @@ pub record Trace : Type 0 where
 abbrev pub trace_of : Option (List ℕ) → ℕ → ℕ → Trace
 trace_of text faults faults_now = record { text = text; faults = faults; faults_now = faults_now }
 
--- why there is no picture: the status, and the line that tells it
+-- why there is no picture: the status, and the line that reports it
 pub data Refuses (trace : Trace) : ℕ → List ℕ → Type 0 where
   bad_line : (line : ℕ) → IfSome trace.text (HasBadLine line) → Refuses trace 12 (bad_line_message line)
   unread : Rose trace.faults trace.faults_now → Refuses trace 3 read_message
   too_long : IfSome trace.text IsTooLong → Refuses trace 8 limit_message
   no_memory : Refuses trace 7 memory_message
 
--- ---- what is written
+-- ---- output
 
--- what a sink tells before and after a call: its count of faults, and the bytes that it holds
+-- the report of a sink before and after a call: its count of faults, and the bytes that it holds
 pub record SinkChange : Type 0 where
   pub faults : ℕ
   pub faults_now : ℕ
@@ -72,7 +73,8 @@ change_of tells before now = record {
   held_now = tells.held now;
 }
 
--- the bytes were added and the answer is the status, or a write failed after some of them and the answer is 4
+-- the bytes were added and the result is the status, or a write failed after some of them and the
+-- result is 4
 pub data IsPut (status : ℕ) (bytes : List ℕ) (sink : SinkChange) : ℕ → Type 0 where
   whole : Adds sink.held bytes sink.held_now → IsPut status bytes sink status
   cut : Rose sink.faults sink.faults_now → AddsPrefix sink.held bytes sink.held_now → IsPut status bytes sink 4
@@ -80,14 +82,14 @@ pub data IsPut (status : ℕ) (bytes : List ℕ) (sink : SinkChange) : ℕ → T
 abbrev pub IsUntouched : SinkChange → Type 0
 IsUntouched sink = (sink.held_now ≡ sink.held) × (sink.faults_now ≡ sink.faults)
 
--- How a call ends, by its answer: the picture of the journal goes to the output, or a line to the error output, and the
--- other of the two is left alone.
+-- How a call ends, by its result: the picture of the journal goes to the output, or a line to the
+-- error output, and the other of the two is untouched.
 pub data Ends (trace : Trace) (out err : SinkChange) (answer : ℕ) : Type 0 where
   shows : (es : List Entry) → IfSome trace.text (IsJournal es) → IsPut 0 (picture_text (picture_of es)) out answer →
       IsUntouched err → Ends trace out err answer
   tells : (status : ℕ) (message : List ℕ) → Refuses trace status message → IsPut status message err answer →
       IsUntouched out → Ends trace out err answer
 
--- the text of no journal leaves the output alone
+-- a text that isn't a journal's leaves the output untouched
 abbrev pub NothingButGood : Option (List ℕ) → SinkChange → Type 0
 NothingButGood text out = IfSome text (λ t. ((es : List Entry) → ¬ IsJournal es t) → IsUntouched out)

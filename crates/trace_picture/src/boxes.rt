@@ -10,7 +10,7 @@ use region_tree::OpNumber;
 use run_journal::{Entry, StepKind};
 use std::alloc::AllocError;
 
-/// How a segment ends: given back or taken back at a place of the journal, or not in it.
+/// The end of a segment: submitted or taken back at a place of the journal, or not in it.
 #[derive(Clone, Copy, Debug, PartialEq, Eq)]
 pub enum Ending {
     Given(usize),
@@ -18,7 +18,7 @@ pub enum Ending {
     Unended,
 }
 
-/// How an entry of a kind ends a segment, if it does.
+/// The ending of a segment by an entry of a kind, if it ends one.
 fn ending_at(place: usize, kind: StepKind) -> Option<Ending>
     ensures ending { result ≡ ending_at place kind }
     ensures at { IfSome result (IsAt place) }
@@ -30,7 +30,7 @@ fn ending_at(place: usize, kind: StepKind) -> Option<Ending>
     }
 }
 
-/// How an entry ends the segment of a claim, if it does.
+/// The ending of a claim's segment by an entry, if it ends it.
 fn ended_by(claim: Entry, place: usize, entry: Entry) -> Option<Ending>
     ensures ending { result ≡ ended_by claim place entry }
     ensures at { IfSome result (IsAt place) }
@@ -42,7 +42,7 @@ fn ended_by(claim: Entry, place: usize, entry: Entry) -> Option<Ending>
     }
 }
 
-/// How the segment of a claim ends, by the entries from a place on.
+/// The ending of a claim's segment, given the entries from a place on.
 fn ending_of(claim: Entry, place: usize, journal: &[Entry]) -> Ending
     requires { place ≤ length journal.now }
     ensures ending { result ≡ ending_of claim place (drop place journal.now) }
@@ -57,7 +57,7 @@ fn ending_of(claim: Entry, place: usize, journal: &[Entry]) -> Ending
     Ending::Unended
 }
 
-/// How the segment of an entry at a place ends, where it is a claim.
+/// The ending of the segment of an entry at a place, if it is a claim.
 fn segment_ending(journal: &[Entry], place: usize, entry: Entry) -> Option<Ending>
     requires { place < length journal.now }
     ensures ending { result ≡ segment_ending entry.kind (ending_of entry (place + 1) (drop (place + 1) journal.now)) }
@@ -70,7 +70,7 @@ fn segment_ending(journal: &[Entry], place: usize, entry: Entry) -> Option<Endin
     }
 }
 
-/// The place behind the last one of a segment, in a journal of so many entries.
+/// The place after the last one of a segment, in a journal with this many entries.
 fn place_behind(entries: usize, ending: Ending) -> usize
     requires { IsWithin entries ending }
     ensures { result ≡ place_behind entries ending }
@@ -91,7 +91,7 @@ fn ending_class(ending: Ending) -> &'static str
     }
 }
 
-/// Adds how a segment ends, in words.
+/// Adds the ending of a segment, in words.
 fn push_ending(text: &mut String, entries: usize, ending: Ending) -> Result<(), AllocError>
     requires { IsWithin entries ending }
     ensures { OnOk result (text.new.bytes.items ≡ text.old.bytes.items ++ ending_words ending) }
@@ -127,7 +127,7 @@ fn push_frame(text: &mut String, seat: u16, begin: usize, width: usize) -> Resul
     )
 }
 
-/// Adds what is seen of a box: its colour, and the operation's number.
+/// Adds the visible part of a box: its colour, and the operation's number.
 fn push_face(text: &mut String, op: OpNumber, ending: Ending) -> Result<(), AllocError>
     ensures { OnOk result (text.new.bytes.items ≡ text.old.bytes.items ++ face_text op.0 ending) }
 {
@@ -143,7 +143,7 @@ fn push_face(text: &mut String, op: OpNumber, ending: Ending) -> Result<(), Allo
     )
 }
 
-/// Adds from which line to which a segment goes.
+/// Adds the lines on which a segment begins and ends.
 fn push_span(
     text: &mut String,
     entries: usize,
@@ -159,7 +159,7 @@ fn push_span(
     text.push_str("</title>")
 }
 
-/// Adds the box of a claim at a place, in a journal of so many entries.
+/// Adds the box of a claim at a place, in a journal with this many entries.
 fn push_box(
     text: &mut String,
     entries: usize,

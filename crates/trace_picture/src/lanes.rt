@@ -1,4 +1,4 @@
-//! Lanes of seats, and what stands behind boxes and line.
+//! Lanes of seats, and the background of boxes and line.
 
 ghost use Rattle.std.specs.Prelude.{◌≡◌, ◌+◌, ◌*◌, ◌≤◌, ◌<◌, ◌/◌, ◌^◌, ◌++◌, OnOk};
 ghost use Rattle.trace_picture.specs.Pictures.{lanes_of};
@@ -21,7 +21,7 @@ pub fn lanes_of(journal: &[Entry]) -> u32
     lanes
 }
 
-/// How far below the top of the lanes the number 0 stands.
+/// The distance of the number 0 from the top of the lanes.
 pub fn zero_line(lanes: u32) -> u32
     requires { lanes ≤ 65536 }
     ensures { result ≡ zero_line lanes }
@@ -75,7 +75,7 @@ pub fn push_level(
     )
 }
 
-/// Adds so many lanes, with a line for each number above 0.
+/// Adds all lanes, with a line for each number above 0.
 pub fn push_lanes(text: &mut String, entries: usize, lanes: u32) -> Result<(), AllocError>
     requires { lanes ≤ 65536 }
     ensures { OnOk result (text.new.bytes.items ≡ text.old.bytes.items ++ lanes_text entries lanes lanes) }
@@ -87,7 +87,7 @@ pub fn push_lanes(text: &mut String, entries: usize, lanes: u32) -> Result<(), A
     Ok(())
 }
 
-/// Adds the line behind an entry, by its number of tens.
+/// Adds the line after an entry, by its number of tens.
 fn push_tick(text: &mut String, lanes: u32, tens: usize) -> Result<(), AllocError>
     requires lanes { lanes ≤ 65536 }
     requires fits { 10 * tens < 2 ^ 64 }
@@ -107,7 +107,7 @@ fn push_tick(text: &mut String, lanes: u32, tens: usize) -> Result<(), AllocErro
     )
 }
 
-/// Adds the line behind each tenth of so many entries.
+/// Adds the line after each tenth entry.
 pub fn push_ticks(text: &mut String, entries: usize, lanes: u32) -> Result<(), AllocError>
     requires { lanes ≤ 65536 }
     ensures { OnOk result (text.new.bytes.items ≡ text.old.bytes.items ++ ticks_text lanes (entries / 10)) }

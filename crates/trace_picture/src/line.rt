@@ -1,4 +1,4 @@
-//! The line that tells how many operations are in progress.
+//! The line that shows the number of operations in progress.
 
 ghost use Rattle.std.specs.Prelude.{◌≡◌, ◌≤◌, ◌++◌, OnOk};
 ghost use Rattle.trace_picture.specs.Pictures.{step_of, steps_of};
@@ -10,7 +10,7 @@ use itoa::Buffer;
 use run_journal::{Entry, StepKind};
 use std::alloc::AllocError;
 
-/// What an entry of a kind adds to the line.
+/// The part that an entry of a kind adds to the line.
 fn step_text(kind: StepKind) -> &'static str
     ensures { result.now ≡ step_text (step_of kind) }
 {
@@ -30,7 +30,7 @@ fn push_steps(text: &mut String, journal: &[Entry]) -> Result<(), AllocError>
     Ok(())
 }
 
-/// Adds what the line begins with, below so many lanes.
+/// Adds the start of the line, below the lanes.
 fn push_start(text: &mut String, lanes: u32) -> Result<(), AllocError>
     requires { lanes ≤ 65536 }
     ensures { OnOk result (text.new.bytes.items ≡ text.old.bytes.items ++ start_text lanes) }
@@ -45,7 +45,7 @@ fn push_start(text: &mut String, lanes: u32) -> Result<(), AllocError>
     )
 }
 
-/// Adds the line, below so many lanes.
+/// Adds the line, below the lanes.
 pub fn push_line(text: &mut String, lanes: u32, journal: &[Entry]) -> Result<(), AllocError>
     requires { lanes ≤ 65536 }
     ensures { OnOk result (text.new.bytes.items ≡ text.old.bytes.items ++ line_text lanes (steps_of journal.now)) }

@@ -9,7 +9,7 @@ use itoa::Buffer;
 use run_journal::{Entry, StepKind};
 use std::alloc::AllocError;
 
-/// What a mark tells: that elements were copied, or that a claim was taken back.
+/// The meaning of a mark: elements were copied, or a claim was taken back.
 #[derive(Clone, Copy, Debug, PartialEq, Eq)]
 pub enum MarkKind {
     Copy,
@@ -60,7 +60,7 @@ fn push_shape(
     )
 }
 
-/// Adds what a mark tells, and on which line.
+/// Adds the meaning of a mark, and its line.
 fn push_note(text: &mut String, kind: MarkKind, place: usize) -> Result<(), AllocError>
     requires { place + 1 < 2 ^ 64 }
     ensures { OnOk result (text.new.bytes.items ≡ text.old.bytes.items ++ note_text kind place) }

@@ -1,4 +1,4 @@
-//! Parts of elements: numbers, lengths and what titles begin with.
+//! Parts of elements: numbers, lengths and the starts of titles.
 
 ghost use Rattle.std.specs.Prelude.{◌≡◌, ◌++◌, OnOk, flat_map};
 ghost use Rattle.trace_picture.specs.Drawings.{title_text};
@@ -17,7 +17,7 @@ pub fn push_all(text: &mut String, pieces: &[&str]) -> Result<(), AllocError>
     Ok(())
 }
 
-/// Adds what the title of an entry begins with.
+/// Adds the start of an entry's title.
 pub fn push_title(text: &mut String, entry: Entry) -> Result<(), AllocError>
     ensures { OnOk result (text.new.bytes.items ≡ text.old.bytes.items ++ title_text entry.op.0 entry.seat) }
 {

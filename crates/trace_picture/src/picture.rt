@@ -14,14 +14,14 @@ use itoa::Buffer;
 use run_journal::Entry;
 use std::alloc::{AllocError, Global};
 
-/// How wide the picture of so many entries is.
+/// The width of the picture of this many entries.
 fn width_of(entries: usize) -> usize
     ensures { result ≡ width_of entries }
 {
     entries.max(56).saturating_add(10)
 }
 
-/// How high the picture of so many lanes is.
+/// The height of the picture of this many lanes.
 fn height_of(lanes: u32) -> u32
     requires { lanes ≤ 65536 }
     ensures { result ≡ height_of lanes }
@@ -29,7 +29,7 @@ fn height_of(lanes: u32) -> u32
     5 * lanes + 9
 }
 
-/// Adds what a picture of this width and height begins with.
+/// Adds the start of a picture of this width and height.
 fn push_head(text: &mut String, width: usize, height: u32) -> Result<(), AllocError>
     ensures { OnOk result (text.new.bytes.items ≡ text.old.bytes.items ++ head_text width height) }
 {
@@ -49,7 +49,7 @@ fn push_head(text: &mut String, width: usize, height: u32) -> Result<(), AllocEr
     )
 }
 
-/// Adds what stands behind boxes and line.
+/// Adds the background of boxes and line.
 fn push_ground(text: &mut String, entries: usize, lanes: u32) -> Result<(), AllocError>
     requires { lanes ≤ 65536 }
     ensures { OnOk result (text.new.bytes.items ≡ text.old.bytes.items ++ ground_text entries lanes) }
@@ -62,8 +62,9 @@ fn push_ground(text: &mut String, entries: usize, lanes: u32) -> Result<(), Allo
     push_ticks(text, entries, lanes)
 }
 
-/// The picture of a journal: a lane for each seat, a box in it for each claim up to its give or back, marks for
-/// copies and backs, and below a line of how many operations are in progress.
+/// The picture of a journal: a lane for each seat, a box in it for each claim up to its give or
+/// back, marks for copies and backs, and below a line that shows the number of operations in
+/// progress.
 pub fn picture_text(alloc: Global, journal: &[Entry]) -> Result<String, AllocError>
     ensures { IfOk result (λ text. text.bytes.items ≡ picture_text (picture_of journal.now)) }
 {

@@ -3,7 +3,7 @@
 ghost use Rattle.std.specs.Prelude.{◌≡◌};
 ghost use Rattle.trace_picture.specs.Styles.{dark_text, legend_text, light_text};
 
-/// The colours on a light page, and how texts are set.
+/// The colours on a light page, and the style of texts.
 #[tactic(auto, unfolding(crate::specs::Styles::light_text))]
 pub fn light_text() -> &'static str
     ensures { result.now ≡ light_text }
@@ -48,7 +48,8 @@ text { fill: #f0f6fc }
 "
 }
 
-/// The shapes of marks, the page and the legend; the picture itself stands in the element that it opens.
+/// The shapes of marks, the page and the legend; the picture itself is in the element that it
+/// opens.
 #[tactic(auto, unfolding(crate::specs::Styles::legend_text))]
 pub fn legend_text() -> &'static str
     ensures { result.now ≡ legend_text }

@@ -1,4 +1,4 @@
-//! What a trace comes to, and the one place where it is written.
+//! The verdict on a trace, and the one place where it is written.
 
 ghost use Rattle.std.specs.Prelude.{◌≡◌};
 ghost use Rattle.trace_picture.specs.Verdicts.{IsDelivered};
@@ -6,21 +6,21 @@ ghost use Rattle.trace_picture.specs.Views.{IsPut, change_of};
 
 use run_io::{Sink, put_all};
 
-/// What a trace comes to before anything is written.
+/// The verdict on a trace, before anything is written.
 #[derive(Drop)]
 pub enum Verdict {
     /// Its journal has this picture.
     Shown { picture: String },
-    /// It has a line that is none of a journal; the message says which.
+    /// It has a line that isn't a journal's; the message says which.
     BadLine { message: String },
-    /// It passes the limit.
+    /// It exceeds the limit.
     TooLong,
     /// It can't be read.
     Unread,
     NoMemory,
 }
 
-/// Writes the bytes, and gives the status: 4 where a write failed.
+/// Writes the bytes, and returns the status: 4 if a write failed.
 fn put<K: Sink>(sink: &mut K, bytes: &[u8], status: u8) -> u8
     ensures { IsPut status bytes.now (change_of K.Sink sink.old sink.new) result }
 {
@@ -31,7 +31,7 @@ fn put<K: Sink>(sink: &mut K, bytes: &[u8], status: u8) -> u8
 }
 
 impl Verdict {
-    /// Writes the picture to the output or a line to the error output, and gives the status.
+    /// Writes the picture to the output or a line to the error output, and returns the status.
     pub fn deliver<K: Sink, E: Sink>(&self, out: &mut K, err: &mut E) -> u8
         ensures { IsDelivered self.now (change_of K.Sink out.old out.new) (change_of E.Sink err.old err.new) result }
     {

@@ -14,7 +14,7 @@ use std::alloc::Global;
 /// The most bytes that are read: one more than a trace may have.
 const MOST_BYTES: usize = 16_777_217;
 
-/// What a line comes to that is none of a journal.
+/// The verdict for a line that isn't a journal's.
 fn bad_line(alloc: Global, line: u64) -> Verdict
     ensures { IsBadLine line result }
 {
@@ -24,7 +24,7 @@ fn bad_line(alloc: Global, line: u64) -> Verdict
     }
 }
 
-/// What a journal comes to.
+/// The verdict on a journal.
 fn shown(alloc: Global, journal: &[Entry]) -> Verdict
     ensures { IsShown journal.now result }
 {
@@ -34,7 +34,7 @@ fn shown(alloc: Global, journal: &[Entry]) -> Verdict
     }
 }
 
-/// What a text comes to.
+/// The verdict on a text.
 fn judge_text(alloc: Global, text: &[u8]) -> Verdict
     ensures { Judges text.now result }
 {
@@ -48,7 +48,7 @@ fn judge_text(alloc: Global, text: &[u8]) -> Verdict
     }
 }
 
-/// What the text that a source has left comes to.
+/// The verdict on the text that a source has left.
 fn judge<S: Source>(alloc: Global, source: &mut S) -> Verdict
     ensures says { Says (trace_of (S.left source.old) (S.faults source.old) (S.faults source.new)) result }
     ensures takes { TakesAtMost 16777217 (S.left source.old) (S.left source.new) }
@@ -60,11 +60,12 @@ fn judge<S: Source>(alloc: Global, source: &mut S) -> Verdict
     }
 }
 
-/// Reads a trace, writes its picture to the output, and gives the status.
+/// Reads a trace, writes its picture to the output, and returns the status.
 ///
-/// The trace is what the source has left. The statuses: 0 the picture was written, 3 the trace can't be read, 4 a write
-/// failed, 7 memory ran out, 8 the trace has more than 16,777,216 bytes, 12 it has a line that is none of a journal. An
-/// error is told by one line on the error output, and then nothing is written to the output.
+/// The trace is what the source has left. The statuses: 0 the picture was written, 3 the trace
+/// can't be read, 4 a write failed, 7 memory ran out, 8 the trace has more than 16,777,216 bytes,
+/// 12 it has a line that isn't a journal's. An error is reported by one line on the error output,
+/// and then nothing is written to the output.
 pub fn view_trace<S: Source, K: Sink, E: Sink>(
     alloc: Global,
     source: &mut S,

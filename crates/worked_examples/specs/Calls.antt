@@ -127,7 +127,7 @@ call_between_means =
     meaning call_between_program [] 1000000 ≡ prints "11"
     (root 0 2 (naturals (11 ∷ 0 ∷ []) ∷ []) ∷ [])
 
--- A fault at one colour, behind the calls before it:
+-- A fault at one colour, after the calls before it:
 --     fspace f { x : int64 }
 --     task t(r : region(ispace(int1d), f), k : int64) where reads(r) do
 --       regentlib.c.printf("%lld", k)
@@ -162,7 +162,7 @@ abbrev pub fault_in_loop_means : Type 0
 fault_in_loop_means =
     meaning fault_in_loop_program [] 1000000 ≡ faults "01" BadColor 9
 
--- The first fault in the order of the text decides:
+-- The first fault in the order of the text is the outcome:
 --     fspace f { x : int64 }
 --     task a(r : region(ispace(int1d), f))
 --     where reads writes(r) do

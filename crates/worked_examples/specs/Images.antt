@@ -71,7 +71,7 @@ preimage_of_colour_1_means =
     ∷ root 1 4 (naturals (0 ∷ 0 ∷ 0 ∷ 0 ∷ []) ∷ [])
     ∷ [])
 
--- An image of a field, and what a task reads through it:
+-- An image of a field, and a task that reads through it:
 --     import "regent"
 --     fspace cell { v : int64, w : int64, nbr : int1d }
 --     task setup(r : region(ispace(int1d), cell), n : int64)

@@ -6,7 +6,7 @@ use Rattle.regent_tree.specs.Syntax.{Tree}
 use Rattle.regent_tree.specs.Meaning.{meaning}
 use Rattle.worked_examples.specs.Words.{int, space, call_of, number, param, line, var, print, call, give, count, item, task, task_giving, prints, faults}
 
--- As many turns as a loop takes:
+-- Exactly as many turns as a loop takes:
 --     task main()
 --       for i = 0, 5 do end
 --     end
@@ -18,7 +18,7 @@ abbrev pub turns_enough_means : Type 0
 turns_enough_means =
     meaning turns_enough_program [] 5 ≡ prints "" []
 
--- One turn less than a loop takes:
+-- One turn fewer than a loop takes:
 --     task main()
 --       for i = 0, 5 do end
 --     end
@@ -53,7 +53,7 @@ abbrev pub arguments_first_means : Type 0
 arguments_first_means =
     meaning arguments_first_program [] 1 ≡ faults "u" Turns 9
 
--- A task that calls itself without an end:
+-- A task that calls itself forever:
 --     task d()
 --       regentlib.c.printf("x")
 --       d()

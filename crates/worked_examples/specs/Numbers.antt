@@ -78,7 +78,7 @@ abbrev pub signed_division_means : Type 0
 signed_division_means =
     meaning signed_division_program [] 1000000 ≡ prints "-9223372036854775808 0 -3" []
 
--- A number that is given to the program:
+-- An argument of the program:
 --     task main(n : int64) regentlib.c.printf("%lld", n) end
 abbrev pub input_printed_program : Tree
 input_printed_program =

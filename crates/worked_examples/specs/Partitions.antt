@@ -81,7 +81,7 @@ sizes_by_field_means =
     meaning sizes_by_field_program [] 1000000 ≡ prints "2 1 "
     (root 0 4 (naturals (0 ∷ 7 ∷ 1 ∷ 0 ∷ []) ∷ []) ∷ [])
 
--- The colours of a meet, a difference and a join:
+-- The colours of a meet, a difference and a union:
 --     fspace f { x : int64 }
 --     task sizes(r : region(ispace(int1d), f), p : partition(aliased, r))
 --     where reads(r) do
@@ -141,7 +141,7 @@ set_operations_means =
     meaning set_operations_program [] 1000000 ≡ prints " 3 01 2 012 0123 "
     (root 0 4 (naturals (1 ∷ 1 ∷ 0 ∷ 1 ∷ []) ∷ []) ∷ [])
 
--- A number that is no colour:
+-- A number that isn't a colour:
 --     fspace f { x : int64 }
 --     task main()
 --       var r = region(ispace(int1d, 10), f)

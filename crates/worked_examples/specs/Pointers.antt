@@ -9,7 +9,7 @@ use Rattle.regent_tree.specs.Syntax.{Tree, is_null_expr, null_expr, convert_expr
 use Rattle.regent_tree.specs.Meaning.{meaning}
 use Rattle.worked_examples.specs.Words.{int, dot, at, get, access, calc, minus, space, number, ref, space_of, region, pointer, points_into, param, whole, fields, grants, apart, line, var, var_from, new_region, equal, set, reduce, print, print_by, call, when, each, item, alias, start, field_space, task, prints, faults, root, naturals, below_zero}
 
--- A cast that finds its point, and one that gives null:
+-- A cast that finds its point, and one that results in null:
 --     fspace f { x : int64 }
 --     task main()
 --       var r = region(ispace(int1d, 2), f)
@@ -69,7 +69,7 @@ abbrev pub outside_region_means : Type 0
 outside_region_means =
     meaning outside_region_program [] 1000000 ≡ faults "6" OutOfRegion 8
 
--- In arithmetic two pointers stand for their point numbers:
+-- In arithmetic, two pointers become their point numbers:
 --     fspace f { x : int64 }
 --     task main()
 --       var r = region(ispace(int1d, 4), f)
@@ -125,7 +125,7 @@ abbrev pub null_on_the_right_means : Type 0
 null_on_the_right_means =
     meaning null_on_the_right_program [] 1000000 ≡ faults "a" NullPointer 6
 
--- A null pointer on the left is a fault before the right side is evaluated, where r has no point 9:
+-- A null pointer on the left is a fault before the right side is evaluated; r has no point 9:
 --     fspace f { x : int64 }
 --     task main()
 --       var r = region(ispace(int1d, 4), f)

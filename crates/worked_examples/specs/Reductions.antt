@@ -64,7 +64,7 @@ wrapping_reduction_means =
     meaning wrapping_reduction_program [] 1000000 ≡ prints "-9223372036854775808\n"
     (root 0 1 ((below_zero 9223372036854775808 ∷ []) ∷ []) ∷ [])
 
--- A least that is lowered twice:
+-- A minimum that is lowered twice:
 --     fspace f { x : int64 }
 --     task low(r : region(ispace(int1d), f), k : int64) where reduces min(r.x) do r[0].x min= k end
 --     task main()
@@ -94,7 +94,7 @@ abbrev pub least_lowered_means : Type 0
 least_lowered_means =
     meaning least_lowered_program [] 1000000 ≡ prints "5" (root 0 1 (naturals (5 ∷ []) ∷ []) ∷ [])
 
--- A least that is kept:
+-- A minimum that stays:
 --     fspace f { x : int64 }
 --     task low(r : region(ispace(int1d), f), k : int64) where reduces min(r.x) do r[0].x min= k end
 --     task main()

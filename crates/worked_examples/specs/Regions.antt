@@ -1,4 +1,4 @@
--- What follows from facts on regions, and what doesn't.
+-- Facts about regions, what follows from them, and what doesn't.
 use Rattle.std.specs.Prelude.{◌≡◌, pos, [], ◌∷◌, true, false}
 use Rattle.regent_tree.specs.declared.facts.Colour.{Colour}
 use Rattle.regent_tree.specs.declared.facts.Colour.TheVariants.{Constant, Loop, Unknown}
@@ -11,8 +11,8 @@ use Rattle.regent_tree.specs.Facts.{is_subregion, are_disjoint}
 abbrev pub child : Colour → Term
 child c = Child 1 c
 
--- Children of a disjoint partition: p[0] and p[1] share no point; of p[0] with itself, with p[i]
--- and with an unknown child nothing is known, and nothing of an aliased partition's children.
+-- Children of a disjoint partition: p[0] and p[1] share no point. Nothing is known of p[0] with
+-- itself, with p[i] and with an unknown child, and nothing of an aliased partition's children.
 abbrev pub siblings_means : Type 0
 siblings_means =
     are_disjoint (PartOf 1 0 true ∷ []) (child (Constant (pos 0))) (child (Constant (pos 1)))
@@ -22,7 +22,7 @@ siblings_means =
     ∷ are_disjoint (PartOf 1 0 false ∷ []) (child (Constant (pos 0))) (child (Constant (pos 1)))
     ∷ [] ≡ true ∷ false ∷ false ∷ false ∷ false ∷ []
 
--- Region 2 lies in p[0] before p is told of; p has the parents 0 and 5.
+-- Region 2 lies in p[0] before the fact about p is known; p has the parents 0 and 5.
 abbrev pub told_late_means : Type 0
 told_late_means =
     let facts = Within (Name 2) (child (Constant (pos 0)))
@@ -45,7 +45,7 @@ unknown_child_means =
     ∷ is_subregion facts (child (Loop 3)) (child (Loop 3))
     ∷ [] ≡ true ∷ true ∷ false ∷ false ∷ true ∷ []
 
--- 0 <= 1 <= 2 <= 0, one of them told twice, and 4 beside them.
+-- 0 <= 1 <= 2 <= 0, one of these facts twice, and 4 besides.
 abbrev pub cycle_means : Type 0
 cycle_means =
     let facts = Within (Name 0) (Name 1) ∷ Within (Name 1) (Name 2) ∷ Within (Name 0) (Name 1)
@@ -55,7 +55,7 @@ cycle_means =
     ∷ is_subregion facts (Name 0) (Name 4)
     ∷ [] ≡ true ∷ true ∷ false ∷ []
 
--- 3 <= 1, 4 <= 2 and 1 * 2: so 3 * 4 in both orders, but 3 isn't apart from 1.
+-- 3 <= 1, 4 <= 2 and 1 * 2: so 3 * 4 in both orders, but 3 isn't disjoint from 1.
 abbrev pub apart_above_means : Type 0
 apart_above_means =
     let facts = Within (Name 3) (Name 1)

@@ -191,7 +191,7 @@ filled_means =
     meaning filled_program [] 1000000 ≡ prints "4294967297 1"
     (root 0 2 (naturals (4294967297 ∷ 4294967297 ∷ []) ∷ naturals (1 ∷ 1 ∷ []) ∷ []) ∷ [])
 
--- An assert of what is false:
+-- An assertion that is false:
 --     task main()
 --       regentlib.c.printf("a")
 --       regentlib.assert(1 == 2, "one is two")

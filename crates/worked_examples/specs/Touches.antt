@@ -1,4 +1,4 @@
--- Which touches of a task are covered by what it declares.
+-- The touches of a task that its declaration covers.
 use Rattle.std.specs.Prelude.{◌≡◌, List, [], ◌∷◌, map, Bool, true, false, codes}
 use Rattle.lane_kernels.specs.declared.numbers.Op.TheVariants.{Sum}
 use Rattle.regent_tree.specs.declared.program.Clause.{Clause}

@@ -1,4 +1,4 @@
--- Shorthand for the trees of the examples and for what is said of them.
+-- Shorthand for the trees of the examples and for statements about them.
 use Rattle.std.specs.Prelude.{ℕ, ℤ, pos, neg_ℤ, List, [], ◌∷◌, map, Bool, true, false, Some, None, codes}
 use Prim.Native.String.{String}
 use Rattle.lane_kernels.specs.declared.numbers.Op.{Op}
@@ -255,7 +255,7 @@ abbrev pub faults : String → FaultKind → ℕ → Outcome
 faults text kind line =
     record { text = codes text; ending = Faulted (record { kind = kind; line = line }) }
 
--- a root of the field space at a place, with so many points and these numbers of its fields
+-- a root of the field space at a place, with a number of points and these numbers of its fields
 abbrev pub root : ℕ → ℕ → List (List ℤ) → RootImage
 root space count fields = record { space = space; count = count; fields = fields }
 

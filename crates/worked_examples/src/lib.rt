@@ -1,7 +1,7 @@
-//! Worked examples: what some programs mean, each proved by computing.
+//! Worked examples: the meaning of some programs, each proved by evaluation.
 //!
-//! Each function has an empty body; its contract says what its program prints, and what its regions
-//! hold at the end or with which fault it ends.
+//! Each function has an empty body. Its contract says what its program prints, and the final
+//! contents of its regions or the fault with which it ends.
 #![tactic(auto)]
 
 ghost use Rattle.worked_examples.specs.Numbers.{assignment_means, narrow_product_means, empty_task_means, signed_division_means, input_printed_means};
@@ -40,7 +40,7 @@ pub fn signed_division()
     ensures { signed_division_means }
 {}
 
-/// A number that is given to the program.
+/// An argument of the program.
 #[tactic(auto, using(crate::proofs::Numbers::input_printed_holds))]
 pub fn input_printed()
     ensures { input_printed_means }
@@ -58,13 +58,13 @@ pub fn wrapping_reduction()
     ensures { wrapping_reduction_means }
 {}
 
-/// A least that is lowered twice.
+/// A minimum that is lowered twice.
 #[tactic(auto, using(crate::proofs::Reductions::least_lowered_holds))]
 pub fn least_lowered()
     ensures { least_lowered_means }
 {}
 
-/// A least that is kept.
+/// A minimum that stays.
 #[tactic(auto, using(crate::proofs::Reductions::least_kept_holds))]
 pub fn least_kept()
     ensures { least_kept_means }
@@ -88,13 +88,13 @@ pub fn sizes_by_field()
     ensures { sizes_by_field_means }
 {}
 
-/// The colours of a meet, a difference and a join.
+/// The colours of a meet, a difference and a union.
 #[tactic(auto, using(crate::proofs::Partitions::set_operations_holds))]
 pub fn set_operations()
     ensures { set_operations_means }
 {}
 
-/// A number that is no colour.
+/// A number that isn't a colour.
 #[tactic(auto, using(crate::proofs::Partitions::bad_colour_holds))]
 pub fn bad_colour()
     ensures { bad_colour_means }
@@ -112,7 +112,7 @@ pub fn preimage_of_colour_1()
     ensures { preimage_of_colour_1_means }
 {}
 
-/// An image of a field, and what a task reads through it.
+/// An image of a field, and a task that reads through it.
 #[tactic(auto, using(crate::proofs::Images::neighbours_holds))]
 pub fn neighbours()
     ensures { neighbours_means }
@@ -154,7 +154,7 @@ pub fn filled()
     ensures { filled_means }
 {}
 
-/// An assert of what is false.
+/// An assertion that is false.
 #[tactic(auto, using(crate::proofs::Statements::false_assert_holds))]
 pub fn false_assert()
     ensures { false_assert_means }
@@ -178,19 +178,19 @@ pub fn call_between()
     ensures { call_between_means }
 {}
 
-/// A fault at one colour, behind the calls before it.
+/// A fault at one colour, after the calls before it.
 #[tactic(auto, using(crate::proofs::Calls::fault_in_loop_holds))]
 pub fn fault_in_loop()
     ensures { fault_in_loop_means }
 {}
 
-/// The first fault in the order of the text decides.
+/// The first fault in the order of the text is the outcome.
 #[tactic(auto, using(crate::proofs::Calls::first_fault_holds))]
 pub fn first_fault()
     ensures { first_fault_means }
 {}
 
-/// A cast that finds its point, and one that gives null.
+/// A cast that finds its point, and one that results in null.
 #[tactic(auto, using(crate::proofs::Pointers::null_pointer_holds))]
 pub fn null_pointer()
     ensures { null_pointer_means }
@@ -202,7 +202,7 @@ pub fn outside_region()
     ensures { outside_region_means }
 {}
 
-/// In arithmetic two pointers stand for their point numbers.
+/// In arithmetic, two pointers become their point numbers.
 #[tactic(auto, using(crate::proofs::Pointers::pointer_arithmetic_holds))]
 pub fn pointer_arithmetic()
     ensures { pointer_arithmetic_means }
@@ -214,7 +214,7 @@ pub fn null_on_the_right()
     ensures { null_on_the_right_means }
 {}
 
-/// A null pointer on the left of a sum, before the right side is evaluated.
+/// A null pointer on the left of a sum is a fault before the right side is evaluated.
 #[tactic(auto, using(crate::proofs::Pointers::null_on_the_left_holds))]
 pub fn null_on_the_left()
     ensures { null_on_the_left_means }
@@ -232,13 +232,13 @@ pub fn circuit()
     ensures { circuit_means }
 {}
 
-/// As many turns as a loop takes.
+/// Exactly as many turns as a loop takes.
 #[tactic(auto, using(crate::proofs::Limits::turns_enough_holds))]
 pub fn turns_enough()
     ensures { turns_enough_means }
 {}
 
-/// One turn less than a loop takes.
+/// One turn fewer than a loop takes.
 #[tactic(auto, using(crate::proofs::Limits::turns_spent_holds))]
 pub fn turns_spent()
     ensures { turns_spent_means }
@@ -250,7 +250,7 @@ pub fn arguments_first()
     ensures { arguments_first_means }
 {}
 
-/// A task that calls itself without an end.
+/// A task that calls itself forever.
 #[tactic(auto, using(crate::proofs::Limits::calls_too_deep_holds))]
 pub fn calls_too_deep()
     ensures { calls_too_deep_means }
@@ -273,12 +273,12 @@ pub fn siblings()
     ensures { siblings_means }
 {}
 
-/// A partition that is told of after a child was met, and one with two parents.
+/// A partition whose fact comes after one about its child, and a partition with two parents.
 pub fn told_late()
     ensures { told_late_means }
 {}
 
-/// A child of an unknown colour is no answer.
+/// A child of an unknown colour isn't known to equal itself.
 pub fn unknown_child()
     ensures { unknown_child_means }
 {}
@@ -293,7 +293,7 @@ pub fn apart_above()
     ensures { apart_above_means }
 {}
 
-/// A region that was made when another was bound.
+/// A region that was made after another was bound.
 pub fn made_later()
     ensures { made_later_means }
 {}
