@@ -21,7 +21,8 @@ use Rattle.machine_terms.specs.Segments.{segment}
 use Rattle.plain_run.specs.Nexts.{needed, resumed_as}
 
 -- what an instance keeps of the roots doesn't matter to what follows behind a call
-pub called_empty : (e : Ended) (i : Instance) (c : Contents) → after_call e (record i { contents = c }) ≡ after_call e i
+pub called_empty : (e : Ended) (i : Instance) (c : Contents) →
+    after_call e (record i { contents = c }) ≡ after_call e i
 called_empty (CameBack v own contents text) i c = refl
 called_empty (Broke fault text) i c = refl
 
@@ -30,18 +31,21 @@ within_none : (child : Runner) (f : Frame) (o : Option (List Requirement)) (i : 
 within_none child f None i e = refl
 within_none child f (Some needs) i e = go (is_within needs i.needs) e
   where
-    go : (b : Bool) → None ≡ cond b (Some needs) None → breaks i ≡ cond b (after_call (child (begun f needs i.contents)) i) (breaks i)
+    go : (b : Bool) → None ≡ cond b (Some needs) None →
+        breaks i ≡ cond b (after_call (child (begun f needs i.contents)) i) (breaks i)
     go true q = absurd cc
     go false q = refl
 
 within_some : (child : Runner) (f : Frame) (o : Option (List Requirement)) (ns : List Requirement) (i : Instance) →
-    Some ns ≡ needed o i.needs → after_call (child (begun f ns i.contents)) i ≡ call_within child f o i
+    Some ns ≡ needed o i.needs →
+        after_call (child (begun f ns i.contents)) i ≡ call_within child f o i
 within_some child f None ns i e = absurd cc
 within_some child f (Some needs) ns i e = go (is_within needs i.needs) e
   where
     go : (b : Bool) → Some ns ≡ cond b (Some needs) None →
         after_call (child (begun f ns i.contents)) i ≡ cond b (after_call (child (begun f needs i.contents)) i) (breaks i)
-    go true q = let same : ns ≡ needs = cc in ap (λ (rs : List Requirement). after_call (child (begun f rs i.contents)) i) same
+    go true q = let same : ns ≡ needs = cc in
+        ap (λ (rs : List Requirement). after_call (child (begun f rs i.contents)) i) same
     go false q = absurd cc
 
 module _ (code : Code) (turns : ℕ) (child : Runner) where
@@ -57,7 +61,8 @@ module _ (code : Code) (turns : ℕ) (child : Runner) where
       ∙ ap (λ (ds : List CallOut). call_all code turns child ds i) (sym is) ∙ so_far
 
   -- a call of no task
-  pub no_task : (c : CallOut) (i : Instance) → None ≡ slice_get code.tasks c.task → breaks i ≡ one c i
+  pub no_task : (c : CallOut) (i : Instance) → None ≡ slice_get code.tasks c.task →
+      breaks i ≡ one c i
   no_task c i e = ap (λ (o : Option TaskCode). call_task code turns child c o i) e
 
   module _ (c : CallOut) (i : Instance) (t : TaskCode) (is : Some t ≡ slice_get code.tasks c.task) where
@@ -67,7 +72,8 @@ module _ (code : Code) (turns : ℕ) (child : Runner) where
     abbrev needs : Option (List Requirement)
     needs = requirements_on code i.contents t.needs c.args
 
-    by_slots : (b : Bool) → nat_le (length c.args) t.slots ≡ b → cond b (call_within child frame needs i) (breaks i) ≡ one c i
+    by_slots : (b : Bool) → nat_le (length c.args) t.slots ≡ b →
+        cond b (call_within child frame needs i) (breaks i) ≡ one c i
     by_slots b e = ap (λ (q : Bool). cond q (call_within child frame needs i) (breaks i)) (sym e)
         ∙ ap (λ (o : Option TaskCode). call_task code turns child c o i) is
 
@@ -76,11 +82,13 @@ module _ (code : Code) (turns : ℕ) (child : Runner) where
     too_many more = by_slots false more
 
     -- one that needs more than its caller
-    pub needs_more : nat_le (length c.args) t.slots ≡ true → None ≡ needed needs i.needs → breaks i ≡ one c i
+    pub needs_more : nat_le (length c.args) t.slots ≡ true → None ≡ needed needs i.needs →
+        breaks i ≡ one c i
     needs_more few e = within_none child frame needs i e ∙ by_slots true few
 
     -- and one that begins
-    pub call_begins : (f : Frame) (ns : List Requirement) (empty : Contents) → nat_le (length c.args) t.slots ≡ true → f ≡ frame →
+    pub call_begins : (f : Frame) (ns : List Requirement) (empty : Contents) →
+        nat_le (length c.args) t.slots ≡ true → f ≡ frame →
         Some ns ≡ needed needs i.needs →
         after_call (child (begun f ns i.contents)) (record i { contents = empty }) ≡ one c i
     call_begins f ns empty few opens e = called_empty (child (begun f ns i.contents)) i empty
@@ -108,11 +116,13 @@ module _ (code : Code) (turns : ℕ) (child : Runner) where
 
 pub level_below : (code : Code) (turns levels count : ℕ) (i : Instance) (e : Ended) → 0 < levels →
     count ≡ enough_segments code i.frame →
-    e ≡ run_segments code turns (runs code turns (levels - 1)) count i → e ≡ runs code turns levels i
+    e ≡ run_segments code turns (runs code turns (levels - 1)) count i →
+        e ≡ runs code turns levels i
 level_below code turns zero count i e l is h = absurd (omega (arith, l))
 level_below code turns (suc k) count i e l is h =
     let down : (suc k - 1) ≡ k = omega (arith) in
-    h ∙ ap (λ (n : ℕ). run_segments code turns (runs code turns n) count i) down ∙ ap (λ (n : ℕ). run_segments code turns (runs code turns k) n i) is
+    h ∙ ap (λ (n : ℕ). run_segments code turns (runs code turns n) count i) down
+        ∙ ap (λ (n : ℕ). run_segments code turns (runs code turns k) n i) is
 
 -- the outcome of a job that may start
 pub first_run : (job : Job) (t : TaskCode) (o : Outcome) → may_start job t ≡ true →

@@ -56,12 +56,14 @@ abbrev Goes : List Loan → Resumed → Resumed → Type 0
 Goes ls (resumed.GoesOn i) r = GoesOnAs (record { instance = i; loans = ls }) r
 Goes ls (resumed.IsOver e) r = r ≡ resumed.IsOver e
 
-as_follows : (over : Option Ended) (i : Instance) (ls : List Loan) (r : Resumed) → Goes ls (resumed_as over i) r →
+as_follows : (over : Option Ended) (i : Instance) (ls : List Loan) (r : Resumed) →
+    Goes ls (resumed_as over i) r →
     Follows over (record { instance = i; loans = ls }) r
 as_follows None i ls r f = f
 as_follows (Some e) i ls r f = f
 
-nothing_lent : (over : Option Ended) (i : Instance) → Follows over (record { instance = i; loans = [] }) (resumed_as over i)
+nothing_lent : (over : Option Ended) (i : Instance) →
+    Follows over (record { instance = i; loans = [] }) (resumed_as over i)
 nothing_lent None i = record { contents = i.contents; instance = refl; stands = refl }
 nothing_lent (Some e) i = refl
 
@@ -84,7 +86,8 @@ made_follows ls code (made.Root size space) i c h =
     }
 made_follows ls code (made.Partition r sets disjoint) i c h = go (is_sound r.points sets disjoint)
   where
-    go : (b : Bool) → Goes ls (cond b (resumed.GoesOn (make_partition r sets disjoint i)) (breaks i))
+    go : (b : Bool) →
+        Goes ls (cond b (resumed.GoesOn (make_partition r sets disjoint i)) (breaks i))
         (cond b (resumed.GoesOn (make_partition r sets disjoint (record i { contents = c })))
         (breaks (record i { contents = c })))
     go true = record { contents = c; instance = refl; stands = h }
@@ -112,7 +115,8 @@ module _ (code : Code) (turns : ℕ) (child : Runner) where
   abbrev emptied : Holder → Holder
   emptied h = record h { instance = with_results [] h.instance }
 
-  all_follow : (answers : KeptAnswers) (rs : List ℤ) (c : Contents) (h : Holder) → h.instance.results ≡ [] →
+  all_follow : (answers : KeptAnswers) (rs : List ℤ) (c : Contents) (h : Holder) →
+      h.instance.results ≡ [] →
       Serves answers h.instance.frame rs →
       resume_after code turns child (stopped h) (after rs (whole c h)) ≡ behind rs (by_answers answers.kept c h)
   all_follow answers rs c h none serves =
@@ -120,7 +124,8 @@ module _ (code : Code) (turns : ℕ) (child : Runner) where
       serves.told n (segments_ask_no_other (before_of code h.instance) f n e (inl (inl had)))
       ∙ ap (λ (zs : List ℤ). get_or zs n (pos 0)) (sym (ap (λ (zs : List ℤ). rs ++ zs) none ∙ append-nil rs)))
 
-  keeps : (left : ℕ) (now : Holder) (answers more : KeptAnswers) (total : Ended) → RunsOn code turns child left now answers total →
+  keeps : (left : ℕ) (now : Holder) (answers more : KeptAnswers) (total : Ended) →
+      RunsOn code turns child left now answers total →
       LetGo (with_numbers now.instance.results answers) more now.instance.frame →
       RunsOn code turns child left (emptied now) more total
   keeps left now answers more total r let_go =
@@ -135,8 +140,10 @@ module _ (code : Code) (turns : ℕ) (child : Runner) where
             (append-nil (rs ++ zs)) ∙ r.ends;
       }
 
-  steps : (left : ℕ) (now next : Holder) (answers : KeptAnswers) (total : Ended) → 0 < left → now.instance.results ≡ [] →
-      (r : RunsOn code turns child left now answers total) → GoesOnAs next (by_answers answers.kept r.contents now) →
+  steps : (left : ℕ) (now next : Holder) (answers : KeptAnswers) (total : Ended) → 0 < left →
+      now.instance.results ≡ [] →
+      (r : RunsOn code turns child left now answers total) →
+          GoesOnAs next (by_answers answers.kept r.contents now) →
       RunsOn code turns child (left - 1) next answers total
   steps left now next answers total l none r f =
       let rs = r.results in
@@ -168,7 +175,8 @@ module _ (code : Code) (turns : ℕ) (child : Runner) where
     holder_next f = steps left kept next more total l none ready (f ready.contents ready.stands)
 
     -- and behind the last
-    pub holder_last : (over : Ended) → ((c : Contents) → Stands c kept → Follows (Some over) next (by_answers more.kept c kept)) →
+    pub holder_last : (over : Ended) →
+        ((c : Contents) → Stands c kept → Follows (Some over) next (by_answers more.kept c kept)) →
         over ≡ total
     holder_last over f =
         segment_last code turns child left (after ready.results (whole ready.contents kept)) over total l
@@ -176,7 +184,8 @@ module _ (code : Code) (turns : ℕ) (child : Runner) where
         ∙ ap (behind ready.results) (f ready.contents ready.stands))) ready.ends
 
   -- before the first segment
-  pub holder_first : (left : ℕ) (h : Holder) (answers : KeptAnswers) → h.loans ≡ [] → answers ≡ record { kept = []; count = 0 } →
+  pub holder_first : (left : ℕ) (h : Holder) (answers : KeptAnswers) → h.loans ≡ [] →
+      answers ≡ record { kept = []; count = 0 } →
       RunsOn code turns child left h answers (run_segments code turns child left h.instance)
   holder_first left h answers no_loans no_answers = record {
     contents = h.instance.contents;
@@ -201,7 +210,8 @@ module _ (kept : List Answer) (code : Code) (turns : ℕ) (child : Runner) (k : 
 
   pub calls_follow : (calls : List CallOut) (given : Holder) (i : Instance) (over : Option Ended) →
       y ≡ yield.Calls calls → given.loans ≡ [] → given.instance ≡ give_all (whole k h) →
-      resumed_as over i ≡ call_all code turns child calls given.instance → Follows over (record given { instance = i }) (for_it y)
+      resumed_as over i ≡ call_all code turns child calls given.instance →
+          Follows over (record given { instance = i }) (for_it y)
   calls_follow calls given i over is no_loans all made =
       subst (λ (ls : List Loan). Follows over (record { instance = i; loans = ls }) (for_it y)) (sym no_loans)
       (subst (λ (r : Resumed). Follows over (record { instance = i; loans = [] }) r)
@@ -216,13 +226,17 @@ module _ (kept : List Answer) (code : Code) (turns : ℕ) (child : Runner) (k : 
     stands = f.0;
   }
 
-  pub await_follows : (n : ℕ) (i : Instance) → Stands k h → y ≡ yield.Await n → i ≡ await_answer kept n h.instance →
+  pub await_follows : (n : ℕ) (i : Instance) → Stands k h → y ≡ yield.Await n →
+      i ≡ await_answer kept n h.instance →
       Follows None (record h { instance = i }) (for_it y)
-  await_follows n i st is made = subst (λ (j : Instance). Follows None (record h { instance = j }) (for_it y)) (sym made)
+  await_follows n i st is made =
+      subst (λ (j : Instance). Follows None (record h { instance = j }) (for_it y)) (sym made)
       (record { contents = k; instance = ap for_it is; stands = st })
 
-  pub make_follows : (m : Made) (over : Option Ended) (i : Instance) → Stands k h → y ≡ yield.Make m →
-      resumed_as over i ≡ make code m h.instance → Follows over (record h { instance = i }) (for_it y)
+  pub make_follows : (m : Made) (over : Option Ended) (i : Instance) → Stands k h →
+      y ≡ yield.Make m →
+      resumed_as over i ≡ make code m h.instance →
+          Follows over (record h { instance = i }) (for_it y)
   make_follows m over i st is made = as_follows over i h.loans (for_it y)
       (subst (λ (r : Resumed). Goes h.loans r (for_it y)) (sym made)
       (subst (λ (r : Resumed). Goes h.loans (make code m h.instance) r) (ap for_it (sym is))
@@ -246,12 +260,14 @@ module _ (kept : List Answer) (code : Code) (turns : ℕ) (child : Runner) (k : 
   same : whole k rest ≡ left
   same = ap (λ (i : Instance). record i { contents = k }) ran.rest
 
-  by_frame : (o : Option Frame) → FrameLeft o goes_on h.instance.frame rest.instance.frame → goes_on ≡ true →
+  by_frame : (o : Option Frame) → FrameLeft o goes_on h.instance.frame rest.instance.frame →
+      goes_on ≡ true →
       resume_by kept code turns child a.ends left ≡ resume_in_by kept code turns child o a.ends (with_parts a (whole k h))
   by_frame (Some f) was is = ap (λ (g : Frame). resume_by kept code turns child a.ends (record (with_parts a (whole k h)) { frame = g })) was.1
   by_frame None was is = absurd (let q : true ≡ false = sym is ∙ was.0 in cc)
 
-  by_roots : (o : Option Frame) → FrameLeft o goes_on h.instance.frame rest.instance.frame → goes_on ≡ false →
+  by_roots : (o : Option Frame) → FrameLeft o goes_on h.instance.frame rest.instance.frame →
+      goes_on ≡ false →
       resumed.IsOver (conclude a.ends left) ≡ resume_in_by kept code turns child o a.ends (with_parts a (whole k h))
   by_roots (Some f) was is = absurd (let q : true ≡ false = sym was.0 ∙ is in cc)
   by_roots None was is = ap resumed.IsOver (conclude_with_roots a.ends (with_parts a (whole k h)) rest.instance.frame was.1)
@@ -261,10 +277,12 @@ module _ (kept : List Answer) (code : Code) (turns : ℕ) (child : Runner) (k : 
       Follows over next (resume_after_by kept code turns child a (whole k h))
   goes_on_behind over next is st f = subst (λ (r : Resumed). Follows over next r)
       (ap (λ (y : Yield). resume_by kept code turns child y (whole k rest)) ran.stops
-      ∙ ap (resume_by kept code turns child a.ends) same ∙ by_frame a.frame ran.frame is) (f k (stands_still st))
+      ∙ ap (resume_by kept code turns child a.ends) same
+          ∙ by_frame a.frame ran.frame is) (f k (stands_still st))
 
   pub ends_behind : (over : Ended) (next : Holder) → goes_on ≡ false → Stands k h →
       ((c : Contents) → Stands c rest → over ≡ conclude ends (whole c rest)) →
       Follows (Some over) next (resume_after_by kept code turns child a (whole k h))
   ends_behind over next is st f = sym (ap resumed.IsOver (f k (stands_still st)
-      ∙ ap (λ (y : Yield). conclude y (whole k rest)) ran.stops ∙ ap (conclude a.ends) same) ∙ by_roots a.frame ran.frame is)
+      ∙ ap (λ (y : Yield). conclude y (whole k rest)) ran.stops
+          ∙ ap (conclude a.ends) same) ∙ by_roots a.frame ran.frame is)

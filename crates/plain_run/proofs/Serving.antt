@@ -51,7 +51,8 @@ module _ (code : Code) (turns : ℕ) (child : Runner) (rs : List ℤ) where
   within_behind f None i = refl
   within_behind f (Some needs) i = go (is_within needs i.needs)
     where
-      go : (b : Bool) → cond b (after_call (child (begun f needs i.contents)) (after rs i)) (breaks (after rs i))
+      go : (b : Bool) →
+          cond b (after_call (child (begun f needs i.contents)) (after rs i)) (breaks (after rs i))
           ≡ behind rs (cond b (after_call (child (begun f needs i.contents)) i) (breaks i))
       go true = came_behind (child (begun f needs i.contents)) i
       go false = refl
@@ -72,7 +73,8 @@ module _ (code : Code) (turns : ℕ) (child : Runner) (rs : List ℤ) where
       go true = within_behind frame needs i
       go false = refl
 
-  calls_behind : (cs : List CallOut) (i : Instance) → call_all code turns child cs (after rs i) ≡ behind rs (call_all code turns child cs i)
+  calls_behind : (cs : List CallOut) (i : Instance) →
+      call_all code turns child cs (after rs i) ≡ behind rs (call_all code turns child cs i)
   calls_behind [] i = refl
   calls_behind (c ∷ cs) i =
       ap (λ (r : Resumed). on_resumed r (call_all code turns child cs)) (task_behind c (slice_get code.tasks c.task) i)
@@ -89,7 +91,8 @@ module _ (code : Code) (turns : ℕ) (child : Runner) (rs : List ℤ) where
   made_behind (made.Root size space) i = refl
   made_behind (made.Partition r sets disjoint) i = go (is_sound r.points sets disjoint)
     where
-      go : (b : Bool) → cond b (GoesOn (make_partition r sets disjoint (after rs i))) (breaks (after rs i))
+      go : (b : Bool) →
+          cond b (GoesOn (make_partition r sets disjoint (after rs i))) (breaks (after rs i))
           ≡ behind rs (cond b (GoesOn (make_partition r sets disjoint i)) (breaks i))
       go true = refl
       go false = refl
@@ -112,21 +115,25 @@ there : (v w : Value) (vs : List Value) → Contains vs w → Contains (v ∷ vs
 there v w vs c = Contains-append_right (v ∷ []) vs w c
 
 -- whatever a child's value is taken to be, where no slot holds it as pending
-settled_alike : (n : ℕ) (z y : ℤ) (vs : List Value) → (Contains vs (value.Pending n) → z ≡ y) → map (settled n z) vs ≡ map (settled n y) vs
+settled_alike : (n : ℕ) (z y : ℤ) (vs : List Value) → (Contains vs (value.Pending n) → z ≡ y) →
+    map (settled n z) vs ≡ map (settled n y) vs
 settled_alike n z y [] same = refl
-settled_alike n z y (v ∷ vs) same = both (one v same) (settled_alike n z y vs (λ c. same (there v (value.Pending n) vs c)))
+settled_alike n z y (v ∷ vs) same =
+    both (one v same) (settled_alike n z y vs (λ c. same (there v (value.Pending n) vs c)))
   where
     both : {a b : Value} {xs ys : List Value} → a ≡ b → xs ≡ ys → (a ∷ xs) ≡ (b ∷ ys)
     both e f = cc
 
-    one : (w : Value) → (Contains (w ∷ vs) (value.Pending n) → z ≡ y) → settled n z w ≡ settled n y w
+    one : (w : Value) → (Contains (w ∷ vs) (value.Pending n) → z ≡ y) →
+        settled n z w ≡ settled n y w
     one (value.Number x) s = refl
     one (value.Space x) s = refl
     one (value.Region r) s = refl
     one (value.Partition p) s = refl
     one (value.Pending j) s = go (n == j) refl
       where
-        go : (b : Bool) → (n == j) ≡ b → cond b (value.Number z) (value.Pending j) ≡ cond b (value.Number y) (value.Pending j)
+        go : (b : Bool) → (n == j) ≡ b →
+            cond b (value.Number z) (value.Pending j) ≡ cond b (value.Number y) (value.Pending j)
         go true e =
             let same : n ≡ j = eqb-true n j e in
             ap value.Number (s (subst (λ (k : ℕ). Contains (value.Pending j ∷ vs) (value.Pending k)) (sym same) (here (value.Pending j) vs)))
@@ -137,7 +144,8 @@ settled_alike n z y (v ∷ vs) same = both (one v same) (settled_alike n z y vs 
 module _ (code : Code) (turns : ℕ) (child : Runner) (kept : List Answer) (rs : List ℤ) where
   -- the answers that are kept tell of each child that is pending in a slot what all values tell
   abbrev AreTold : Instance → List Value → Type 0
-  AreTold i slots = (n : ℕ) → Contains slots (value.Pending n) → answer_in kept n ≡ get_or (rs ++ i.results) n (pos 0)
+  AreTold i slots = (n : ℕ) → Contains slots (value.Pending n) →
+      answer_in kept n ≡ get_or (rs ++ i.results) n (pos 0)
 
   resumed_behind : (y : Yield) (i : Instance) → AreTold i i.frame.slots →
       resume code turns child y (after rs i) ≡ behind rs (resume_by kept code turns child y i)
@@ -151,7 +159,8 @@ module _ (code : Code) (turns : ℕ) (child : Runner) (kept : List Answer) (rs :
   resumed_behind (yield.Fault k) i told = refl
   resumed_behind yield.MachineFault i told = refl
 
-  pub follows_behind : (a : After) (i : Instance) → ((f : Frame) → a.frame ≡ Some f → AreTold i f.slots) →
+  pub follows_behind : (a : After) (i : Instance) →
+      ((f : Frame) → a.frame ≡ Some f → AreTold i f.slots) →
       resume_after code turns child a (after rs i) ≡ behind rs (resume_after_by kept code turns child a i)
   follows_behind a i told = go a.frame refl
     where
@@ -181,7 +190,8 @@ topped f v n other (inl (inr c)) = by (Contains-append_cases (v ∷ []) f.stack 
 topped f v n other (inr l) = inr l
 
 -- what is settled was pending before
-settled_had : (n m : ℕ) (z : ℤ) (vs : List Value) → Contains (map (settled n z) vs) (value.Pending m) → Contains vs (value.Pending m)
+settled_had : (n m : ℕ) (z : ℤ) (vs : List Value) →
+    Contains (map (settled n z) vs) (value.Pending m) → Contains vs (value.Pending m)
 settled_had n m z [] c = c
 settled_had n m z (v ∷ vs) c =
     by v (Contains-append_cases (settled n z v ∷ []) (map (settled n z) vs) (value.Pending m) c) (settled_had n m z vs)
@@ -193,12 +203,14 @@ settled_had n m z (v ∷ vs) c =
     one (value.Partition p) e = e
     one (value.Pending j) e = go (n == j) e
       where
-        go : (b : Bool) → cond b (value.Number z) (value.Pending j) ≡ value.Pending m → value.Pending j ≡ value.Pending m
+        go : (b : Bool) → cond b (value.Number z) (value.Pending j) ≡ value.Pending m →
+            value.Pending j ≡ value.Pending m
         go true q = absurd cc
         go false q = q
 
     by : (w : Value) → Contains (settled n z w ∷ []) (value.Pending m) ⊎ Contains (map (settled n z) vs) (value.Pending m) →
-        (Contains (map (settled n z) vs) (value.Pending m) → Contains vs (value.Pending m)) → Contains (w ∷ vs) (value.Pending m)
+        (Contains (map (settled n z) vs) (value.Pending m) → Contains vs (value.Pending m)) →
+            Contains (w ∷ vs) (value.Pending m)
     by w (inl (zero, l, e)) rest = subst (Contains (w ∷ vs)) (one w e) (here w vs)
     by w (inl (suc k, l, e)) rest = absurd (omega (arith, l))
     by w (inr d) rest = there w (value.Pending m) vs (rest d)
@@ -212,15 +224,18 @@ module _ (code : Code) (turns : ℕ) (child : Runner) (kept : List Answer) where
   came_same (CameBack v own contents text) i = refl
   came_same (Broke fault text) i = tt
 
-  within_same : (f : Frame) (o : Option (List Requirement)) (i : Instance) → same_frame i (call_within child f o i)
+  within_same : (f : Frame) (o : Option (List Requirement)) (i : Instance) →
+      same_frame i (call_within child f o i)
   within_same f None i = tt
   within_same f (Some needs) i = go (is_within needs i.needs)
     where
-      go : (b : Bool) → same_frame i (cond b (after_call (child (begun f needs i.contents)) i) (breaks i))
+      go : (b : Bool) →
+          same_frame i (cond b (after_call (child (begun f needs i.contents)) i) (breaks i))
       go true = came_same (child (begun f needs i.contents)) i
       go false = tt
 
-  task_same : (c : CallOut) (o : Option TaskCode) (i : Instance) → same_frame i (call_task code turns child c o i)
+  task_same : (c : CallOut) (o : Option TaskCode) (i : Instance) →
+      same_frame i (call_task code turns child c o i)
   task_same c None i = tt
   task_same c (Some t) i = go (nat_le (length c.args) t.slots)
     where
@@ -243,7 +258,8 @@ module _ (code : Code) (turns : ℕ) (child : Runner) (kept : List Answer) where
       then j (GoesOn k) e f = f ∙ e
       then j (IsOver over) e f = tt
 
-      on : (r : Resumed) → same_frame i r → ((j : Instance) → same_frame j (call_all code turns child cs j)) →
+      on : (r : Resumed) → same_frame i r →
+          ((j : Instance) → same_frame j (call_all code turns child cs j)) →
           same_frame i (on_resumed r (call_all code turns child cs))
       on (GoesOn j) e rest = then j (call_all code turns child cs j) e (rest j)
       on (IsOver over) e rest = tt
@@ -252,19 +268,26 @@ module _ (code : Code) (turns : ℕ) (child : Runner) (kept : List Answer) where
   by_same i (GoesOn j) e = λ n may. subst (λ (f : Frame). MayAsk f n) e may
   by_same i (IsOver over) e = tt
 
-  resumed_asks : (y : Yield) (i : Instance) → AsksNoMore i.frame (resume_by kept code turns child y i)
-  resumed_asks (yield.Calls cs) i = by_same i (call_all code turns child cs (give_all i)) (calls_same cs (give_all i))
+  resumed_asks : (y : Yield) (i : Instance) →
+      AsksNoMore i.frame (resume_by kept code turns child y i)
+  resumed_asks (yield.Calls cs) i =
+      by_same i (call_all code turns child cs (give_all i)) (calls_same cs (give_all i))
   resumed_asks (yield.Want r g) i = λ n may. may
   resumed_asks (yield.Await m) i = λ n may. by n may
     where
-      by : (n : ℕ) → MayAsk (record i.frame { slots = map (settled m (answer_in kept m)) i.frame.slots }) n → MayAsk i.frame n
+      by : (n : ℕ) →
+          MayAsk (record i.frame { slots = map (settled m (answer_in kept m)) i.frame.slots }) n →
+          MayAsk i.frame n
       by n (inl (inl c)) = inl (inl (settled_had m n (answer_in kept m) i.frame.slots c))
       by n (inl (inr c)) = inl (inr c)
       by n (inr l) = inr l
-  resumed_asks (yield.Make (made.Root size space)) i = λ n may. topped i.frame _ n (λ m e. absurd cc) may
-  resumed_asks (yield.Make (made.Partition r sets disjoint)) i = go (is_sound r.points sets disjoint)
+  resumed_asks (yield.Make (made.Root size space)) i =
+      λ n may. topped i.frame _ n (λ m e. absurd cc) may
+  resumed_asks (yield.Make (made.Partition r sets disjoint)) i =
+      go (is_sound r.points sets disjoint)
     where
-      go : (b : Bool) → AsksNoMore i.frame (cond b (GoesOn (make_partition r sets disjoint i)) (breaks i))
+      go : (b : Bool) →
+          AsksNoMore i.frame (cond b (GoesOn (make_partition r sets disjoint i)) (breaks i))
       go true = λ n may. topped i.frame _ n (λ m e. absurd cc) may
       go false = tt
   resumed_asks (yield.End v) i = tt
@@ -272,11 +295,13 @@ module _ (code : Code) (turns : ℕ) (child : Runner) (kept : List Answer) where
   resumed_asks yield.MachineFault i = tt
 
   -- behind a segment an instance asks for no more than the frame that the segment left
-  pub asks_behind : (a : After) (i : Instance) (f : Frame) → ((g : Frame) → a.frame ≡ Some g → (n : ℕ) → MayAsk g n → MayAsk f n) →
+  pub asks_behind : (a : After) (i : Instance) (f : Frame) →
+      ((g : Frame) → a.frame ≡ Some g → (n : ℕ) → MayAsk g n → MayAsk f n) →
       AsksNoMore f (resume_after_by kept code turns child a i)
   asks_behind a i f left = go a.frame refl
     where
-      then : (g : Frame) (r : Resumed) → ((n : ℕ) → MayAsk g n → MayAsk f n) → AsksNoMore g r → AsksNoMore f r
+      then : (g : Frame) (r : Resumed) → ((n : ℕ) → MayAsk g n → MayAsk f n) → AsksNoMore g r →
+          AsksNoMore f r
       then g (GoesOn j) no_more asks = λ n may. no_more n (asks n may)
       then g (IsOver over) no_more asks = tt
 
