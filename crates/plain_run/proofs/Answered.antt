@@ -87,12 +87,12 @@ serves_more a f rs zs h = record {
         answer_in (a.kept ++ answers_from a.count zs) n ≡ get_or (rs ++ zs) n (pos 0)
     by n may (inr behind) =
         told_behind n a.count a.kept (answers_from a.count zs) h.below behind
-            ∙ told_from n a.count zs behind
+        ∙ told_from n a.count zs behind
         ∙ sym (get_or-append_right rs zs a.count n (pos 0) (sym h.count) behind)
     by n may (inl before) =
         let inside : n < length rs = subst (λ (k : ℕ). n < k) h.count before in
         told_before n a.count a.kept zs before ∙ h.told n may
-            ∙ sym (get_or_append_left rs zs (pos 0) n inside)
+        ∙ sym (get_or_append_left rs zs (pos 0) n inside)
 
 -- ---- answers that are let go
 
@@ -135,7 +135,7 @@ any_of n (v ∷ vs) more c =
 
     by : (w : Value) → Contains (w ∷ []) (value.Pending n) ⊎ Contains vs (value.Pending n) →
         (Contains vs (value.Pending n) → list_any (λ m. m == n) (pendings vs ++ more) ≡ true) →
-            list_any (λ m. m == n) (pendings (w ∷ vs) ++ more) ≡ true
+        list_any (λ m. m == n) (pendings (w ∷ vs) ++ more) ≡ true
     by w (inl (zero, l, e)) more_of = one w e
     by w (inl (suc k, l, e)) more_of = absurd (omega (arith, l))
     by w (inr d) more_of = rest w (more_of d)
@@ -156,7 +156,7 @@ let_go_none a f =
 pub let_go_some : (a b : KeptAnswers) (f : Frame) (pending : List ℕ) →
     pending ≡ pendings f.slots ++ pendings f.stack →
     b.kept ≡ filter (λ (x : Answer). may_ask f.children pending x.child) a.kept →
-        b.count ≡ a.count → LetGo a b f
+    b.count ≡ a.count → LetGo a b f
 let_go_some a b f pending is kept count = record {
   stays = may_ask f.children pending;
   kept = kept;

@@ -38,7 +38,7 @@ within_none child f (Some needs) i e = go (is_within needs i.needs) e
 
 within_some : (child : Runner) (f : Frame) (o : Option (List Requirement)) (ns : List Requirement) (i : Instance) →
     Some ns ≡ needed o i.needs →
-        after_call (child (begun f ns i.contents)) i ≡ call_within child f o i
+    after_call (child (begun f ns i.contents)) i ≡ call_within child f o i
 within_some child f None ns i e = absurd cc
 within_some child f (Some needs) ns i e = go (is_within needs i.needs) e
   where
@@ -117,12 +117,12 @@ module _ (code : Code) (turns : ℕ) (child : Runner) where
 pub level_below : (code : Code) (turns levels count : ℕ) (i : Instance) (e : Ended) → 0 < levels →
     count ≡ enough_segments code i.frame →
     e ≡ run_segments code turns (runs code turns (levels - 1)) count i →
-        e ≡ runs code turns levels i
+    e ≡ runs code turns levels i
 level_below code turns zero count i e l is h = absurd (omega (arith, l))
 level_below code turns (suc k) count i e l is h =
     let down : (suc k - 1) ≡ k = omega (arith) in
     h ∙ ap (λ (n : ℕ). run_segments code turns (runs code turns n) count i) down
-        ∙ ap (λ (n : ℕ). run_segments code turns (runs code turns k) n i) is
+    ∙ ap (λ (n : ℕ). run_segments code turns (runs code turns k) n i) is
 
 -- the outcome of a job that may start
 pub first_run : (job : Job) (t : TaskCode) (o : Outcome) → may_start job t ≡ true →

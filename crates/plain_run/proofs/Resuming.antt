@@ -143,7 +143,7 @@ module _ (code : Code) (turns : ℕ) (child : Runner) where
   steps : (left : ℕ) (now next : Holder) (answers : KeptAnswers) (total : Ended) → 0 < left →
       now.instance.results ≡ [] →
       (r : RunsOn code turns child left now answers total) →
-          GoesOnAs next (by_answers answers.kept r.contents now) →
+      GoesOnAs next (by_answers answers.kept r.contents now) →
       RunsOn code turns child (left - 1) next answers total
   steps left now next answers total l none r f =
       let rs = r.results in
@@ -211,7 +211,7 @@ module _ (kept : List Answer) (code : Code) (turns : ℕ) (child : Runner) (k : 
   pub calls_follow : (calls : List CallOut) (given : Holder) (i : Instance) (over : Option Ended) →
       y ≡ yield.Calls calls → given.loans ≡ [] → given.instance ≡ give_all (whole k h) →
       resumed_as over i ≡ call_all code turns child calls given.instance →
-          Follows over (record given { instance = i }) (for_it y)
+      Follows over (record given { instance = i }) (for_it y)
   calls_follow calls given i over is no_loans all made =
       subst (λ (ls : List Loan). Follows over (record { instance = i; loans = ls }) (for_it y)) (sym no_loans)
       (subst (λ (r : Resumed). Follows over (record { instance = i; loans = [] }) r)
@@ -236,7 +236,7 @@ module _ (kept : List Answer) (code : Code) (turns : ℕ) (child : Runner) (k : 
   pub make_follows : (m : Made) (over : Option Ended) (i : Instance) → Stands k h →
       y ≡ yield.Make m →
       resumed_as over i ≡ make code m h.instance →
-          Follows over (record h { instance = i }) (for_it y)
+      Follows over (record h { instance = i }) (for_it y)
   make_follows m over i st is made = as_follows over i h.loans (for_it y)
       (subst (λ (r : Resumed). Goes h.loans r (for_it y)) (sym made)
       (subst (λ (r : Resumed). Goes h.loans (make code m h.instance) r) (ap for_it (sym is))
@@ -278,11 +278,11 @@ module _ (kept : List Answer) (code : Code) (turns : ℕ) (child : Runner) (k : 
   goes_on_behind over next is st f = subst (λ (r : Resumed). Follows over next r)
       (ap (λ (y : Yield). resume_by kept code turns child y (whole k rest)) ran.stops
       ∙ ap (resume_by kept code turns child a.ends) same
-          ∙ by_frame a.frame ran.frame is) (f k (stands_still st))
+      ∙ by_frame a.frame ran.frame is) (f k (stands_still st))
 
   pub ends_behind : (over : Ended) (next : Holder) → goes_on ≡ false → Stands k h →
       ((c : Contents) → Stands c rest → over ≡ conclude ends (whole c rest)) →
       Follows (Some over) next (resume_after_by kept code turns child a (whole k h))
   ends_behind over next is st f = sym (ap resumed.IsOver (f k (stands_still st)
       ∙ ap (λ (y : Yield). conclude y (whole k rest)) ran.stops
-          ∙ ap (conclude a.ends) same) ∙ by_roots a.frame ran.frame is)
+      ∙ ap (conclude a.ends) same) ∙ by_roots a.frame ran.frame is)

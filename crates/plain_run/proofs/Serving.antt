@@ -210,7 +210,7 @@ settled_had n m z (v ∷ vs) c =
 
     by : (w : Value) → Contains (settled n z w ∷ []) (value.Pending m) ⊎ Contains (map (settled n z) vs) (value.Pending m) →
         (Contains (map (settled n z) vs) (value.Pending m) → Contains vs (value.Pending m)) →
-            Contains (w ∷ vs) (value.Pending m)
+        Contains (w ∷ vs) (value.Pending m)
     by w (inl (zero, l, e)) rest = subst (Contains (w ∷ vs)) (one w e) (here w vs)
     by w (inl (suc k, l, e)) rest = absurd (omega (arith, l))
     by w (inr d) rest = there w (value.Pending m) vs (rest d)

@@ -18,7 +18,7 @@ returns-clause-called c run =
     sym (slice_get_read tasks (length tasks) c.args.call.task c.in-Some.task.now refl (search rules) (search rules)) in
     let begins : c.begun.result.instance ≡ begun frame needs i.contents =
     ap (λ (h : Holder). h.instance) c.begun.ensures
-        ∙ ap (λ (k : Contents). begun frame needs k) c.replace-contents.ensures.value in
+    ∙ ap (λ (k : Contents). begun frame needs k) c.replace-contents.ensures.value in
     ap (λ (j : Instance). after_call (run j) (record i { contents = c.replace-contents.new.dest })) begins
     ∙ call_begins c.args.code.now c.args.turns run c.args.call i c.in-Some.task.now is frame needs c.replace-contents.new.dest
     few c.in_ok-frame.ensures (sym c.in-Some-2.is ∙ c.in_ok-needs.ensures)

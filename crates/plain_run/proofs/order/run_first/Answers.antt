@@ -20,7 +20,7 @@ returns c =
     let ended : c.in_ok-ended.ended
     ≡ runs job.code job.turns 64 (begun (first_frame job t) [] no_contents) =
     c.in_ok-ended.ensures
-        ∙ ap (λ (code : Code). runs code job.turns 64 c.begun-first.result.instance) c.get.ensures ∙
+    ∙ ap (λ (code : Code). runs code job.turns 64 c.begun-first.result.instance) c.get.ensures ∙
     ap (λ (h : Holder). runs job.code job.turns 64 h.instance) c.begun-first.ensures ∙
     ap (λ (f : Frame). runs job.code job.turns 64 (begun f c.new.result empty)) c.in_ok-frame.ensures ∙
     ap (λ (rs : List Requirement). runs job.code job.turns 64 (begun (first_frame job t) rs empty)) c.new.ensures ∙
